@@ -17,16 +17,16 @@ use Rattle.source.specs.Scopes.{Assertion, Scope}
 use Rattle.source.specs.Whole.{IsWhole}
 use Rattle.verifying.specs.Verifies.{AreVerified, Verifies}
 use Rattle.sourcecheck.specs.declared.checkers.Checker.{Checker}
-use Rattle.sourcecheck.specs.declared.frame.Frame.{Frame}
-use Rattle.sourcecheck.specs.declared.table.Table.{Table}
-use Rattle.sourcecheck.specs.Names.{words_of, IsSound, Lasts, Keeps}
-use Rattle.sourcecheck.specs.Frames.{AreFrames}
+use Rattle.sourceframes.specs.declared.frame.Frame.{Frame}
+use Rattle.sourceframes.specs.declared.table.Table.{Table}
+use Rattle.sourceframes.specs.Names.{words_of, IsSound, Lasts, Keeps}
+use Rattle.sourceframes.specs.Frames.{AreFrames}
 use Rattle.sourcecheck.specs.declared.sources.Unverified.{Unverified}
 use Rattle.sourcecheck.specs.Answers.{IsRefusedAt, IsRefusedIn}
 use Rattle.sourcecheck.specs.Found.{earlier, earliest}
 use Rattle.sourcecheck.specs.Checkers.{PassesAt, FailsAt, IsFoundAmong, checker_of, IsReady, HasChecked, Knows}
 use Rattle.sourcecheck.proofs.Found.{among_same, among_lists}
-use Rattle.sourcecheck.proofs.Numbered.{lasts_on}
+use Rattle.sourceframes.proofs.Numbered.{lasts_on}
 use Rattle.sourcecheck.proofs.Sourced.{verified_more, refused_in}
 
 pub all_ready : (home : Counting) (cs : List Claimant) → All (IsNewOf home) cs → All (IsReady home) (map checker_of cs)

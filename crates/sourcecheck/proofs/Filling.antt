@@ -1,6 +1,6 @@
 -- What a citation over numbers gives is what it gives over the words that they stand for.
 use Rattle.std.proofs.Common.{◌≡◌, ℕ, zero, suc, Bool, true, false, ◌&&◌, ◌||◌, cond, List, [], ◌∷◌, ◌++◌, length, map, drop, refl, sym, ap}
-use Rattle.std.proofs.Common.{◌∙◌, eqb-true, eq-eqb, arith}
+use Rattle.std.proofs.Common.{◌∙◌, arith}
 use Rattle.std.specs.Prelude.{◌==◌, slice_index_or, Option, Some, None, Result, Ok, Err, find, filter, if◌then◌else◌}
 use mathlib.Core.Bool.{not}
 use Rattle.std.specs.Option.{option_map, option_map_or}
@@ -10,8 +10,6 @@ use Rattle.std.specs.Str.{bytes_eq}
 use Rattle.std.proofs.lemmas.List.{map-append}
 use Rattle.mmtext.specs.Words.{Word}
 use Rattle.mmsyntax.specs.Tables.{place_of}
-use Rattle.mmsyntax.proofs.Names.{same_bytes, bytes_eq-same}
-use Rattle.mmsyntax.proofs.Options.{alike}
 use Rattle.mmsyntax.proofs.Distinct.{any-map}
 use Rattle.derivation.specs.declared.fault.ProofFaultKind.{ProofFaultKind}
 use Rattle.derivation.specs.declared.fault.ProofFaultKind.TheVariants.{WrongType, HypothesisDiffers, NotDisjoint}
@@ -20,27 +18,24 @@ use Rattle.verifying.specs.Citations.{Expression, Substitution, same_expression,
 use Rattle.verifying.specs.Citations.{is_instance, variables_in, is_pair_of as is_pair, symbols_apart as words_apart, are_apart as expressions_apart}
 use Rattle.verifying.specs.Citations.{hypotheses_fit, pairs_fit}
 use Rattle.verifying.specs.Verifies.{Entry, cited}
-use Rattle.sourcecheck.specs.declared.frame.Piece.{Piece}
-use Rattle.sourcecheck.specs.declared.frame.Piece.TheVariants.{Itself, Argument}
-use Rattle.sourcecheck.specs.declared.frame.Demand.{Demand}
-use Rattle.sourcecheck.specs.declared.frame.Demand.TheVariants.{Typed, Equal}
-use Rattle.sourcecheck.specs.declared.frame.Frame.{Frame}
-use Rattle.sourcecheck.specs.declared.thesis.Thesis.{Thesis}
-use Rattle.sourcecheck.specs.Coded.{piece_value, filled, begins_with_number, is_typed, types_met, is_equal, equals_met, is_variable_of}
-use Rattle.sourcecheck.specs.Pairs.{is_pair_of_numbers}
-use Rattle.sourcecheck.specs.Coded.{numbers_apart, is_apart, are_numbers_apart, pairs_met, coded}
-use Rattle.sourcecheck.specs.Frames.{Part, found, part_in, part_of, asked_in, asked_of, variable_of, IsFrameOf}
-use Rattle.sourcecheck.specs.Shown.{IsThesisOf}
+use Rattle.sourceframes.specs.declared.frame.Piece.{Piece}
+use Rattle.sourceframes.specs.declared.frame.Piece.TheVariants.{Itself, Argument}
+use Rattle.sourceframes.specs.declared.frame.Demand.{Demand}
+use Rattle.sourceframes.specs.declared.frame.Demand.TheVariants.{Typed, Equal}
+use Rattle.sourceframes.specs.declared.frame.Frame.{Frame}
+use Rattle.sourceframes.specs.declared.thesis.Thesis.{Thesis}
+use Rattle.sourcecheck.specs.Coded.{piece_value, filled, begins_with_number, is_typed, types_met, is_equal, equals_met}
+use Rattle.sourceframes.specs.Pairs.{is_pair_of_numbers}
+use Rattle.sourcecheck.specs.Coded.{is_apart, are_numbers_apart, pairs_met, coded}
+use Rattle.sourceframes.specs.Frames.{Part, found, part_in, part_of, asked_in, asked_of, variable_of, IsFrameOf}
+use Rattle.sourceframes.proofs.Sameness.{any_alike, same_number, same_number-sym, among_numbers}
+use Rattle.sourceframes.specs.Theses.{IsThesisOf, is_variable_of, numbers_apart}
 
 -- ---- tests of lists
 
 all_alike : {A : Type 0} (p q : A → Bool) (xs : List A) → ((x : A) → p x ≡ q x) → list_all p xs ≡ list_all q xs
 all_alike p q [] h = refl
 all_alike p q (x ∷ xs) h = ap (λ b. b && list_all p xs) (h x) ∙ ap (λ b. q x && b) (all_alike p q xs h)
-
-any_alike : {A : Type 0} (p q : A → Bool) (xs : List A) → ((x : A) → p x ≡ q x) → list_any p xs ≡ list_any q xs
-any_alike p q [] h = refl
-any_alike p q (x ∷ xs) h = ap (λ b. b || list_any p xs) (h x) ∙ ap (λ b. q x || b) (any_alike p q xs h)
 
 all_mapped : {A B : Type 0} (p : B → Bool) (f : A → B) (xs : List A) → list_all p (map f xs) ≡ list_all (λ x. p (f x)) xs
 all_mapped p f [] = refl
@@ -108,29 +103,12 @@ picked name true true true e = refl
 -- ---- numbers and the words that they stand for
 
 module _ (name : ℕ → Word) (injective : (m n : ℕ) → name m ≡ name n → m ≡ n) where
-  same_number : (m n : ℕ) → bytes_eq (name m) (name n) ≡ (n == m)
-  same_number m n =
-      alike (bytes_eq (name m) (name n)) (n == m)
-      (λ h. eq-eqb n m (sym (injective m n (same_bytes (name m) (name n) h))))
-      (λ h. ap (λ k. bytes_eq (name m) (name k)) (eqb-true n m h) ∙ bytes_eq-same (name m))
-
-  same_number-sym : (m n : ℕ) → bytes_eq (name m) (name n) ≡ (m == n)
-  same_number-sym m n =
-      alike (bytes_eq (name m) (name n)) (m == n)
-      (λ h. eq-eqb m n (injective m n (same_bytes (name m) (name n) h)))
-      (λ h. ap (λ k. bytes_eq (name m) (name k)) (sym (eqb-true m n h)) ∙ bytes_eq-same (name m))
-
-  -- a word is one of those of some numbers where its number is one of these
-  pub among_numbers : (ns : List ℕ) (n : ℕ) → list_any (bytes_eq (name n)) (map name ns) ≡ list_any (λ v. v == n) ns
-  among_numbers ns n =
-      any-map (bytes_eq (name n)) name ns ∙ any_alike (λ v. bytes_eq (name n) (name v)) (λ v. v == n) ns (same_number n)
-
   pub same_numbers : (d e : List ℕ) → same_expression (map name d) (map name e) ≡ pointwise (λ a b. a == b) d e
   same_numbers [] [] = refl
   same_numbers [] (n ∷ e) = refl
   same_numbers (m ∷ d) [] = refl
   same_numbers (m ∷ d) (n ∷ e) =
-      ap (λ b. b && same_expression (map name d) (map name e)) (same_number-sym m n)
+      ap (λ b. b && same_expression (map name d) (map name e)) (same_number-sym name injective m n)
       ∙ ap (λ b. (m == n) && b) (same_numbers d e)
 
   behind_type : (e : List ℕ) → map name (drop 1 e) ≡ drop 1 (map name e)
@@ -169,7 +147,7 @@ module _ (name : ℕ → Word) (injective : (m n : ℕ) → name m ≡ name n �
 
     begins_named : (n : ℕ) (c : Word) (e : List ℕ) → name n ≡ c → starts_with c (map name e) ≡ begins_with_number n e
     begins_named n c [] h = refl
-    begins_named n c (m ∷ e) h = ap (λ d. bytes_eq d (name m)) (sym h) ∙ same_number-sym n m
+    begins_named n c (m ∷ e) h = ap (λ d. bytes_eq d (name m)) (sym h) ∙ same_number-sym name injective n m
 
     typed_named : (d : Demand) (h : Hypothesis) (e : List ℕ) → asked_of name d ≡ asked_in hyps h
         → has_type h (map name e) ≡ is_typed d e
@@ -219,18 +197,19 @@ module _ (name : ℕ → Word) (injective : (m n : ℕ) → name m ≡ name n �
     variable_named : (n : ℕ) → list_any (is_float_of (name n)) x.active ≡ is_variable_of t n
     variable_named n =
         floats_among x.active (name n) ∙ ap (list_any (bytes_eq (name n))) (sym of.floats)
-        ∙ among_numbers t.floats n
+        ∙ among_numbers name injective t.floats n
 
     pair_named : (u v : ℕ) (p : ℕ × ℕ) → is_pair (name u) (name v) (name p.0, name p.1) ≡ is_pair_of_numbers u v p
     pair_named u v p =
-        ap (λ b. (b && bytes_eq (name v) (name p.1)) || (bytes_eq (name u) (name p.1) && bytes_eq (name v) (name p.0))) (same_number u p.0)
-        ∙ ap (λ b. ((p.0 == u) && b) || (bytes_eq (name u) (name p.1) && bytes_eq (name v) (name p.0))) (same_number v p.1)
-        ∙ ap (λ b. ((p.0 == u) && (p.1 == v)) || (b && bytes_eq (name v) (name p.0))) (same_number u p.1)
-        ∙ ap (λ b. ((p.0 == u) && (p.1 == v)) || ((p.1 == u) && b)) (same_number v p.0)
+        ap (λ b. (b && bytes_eq (name v) (name p.1)) || (bytes_eq (name u) (name p.1) && bytes_eq (name v) (name p.0)))
+        (same_number name injective u p.0)
+        ∙ ap (λ b. ((p.0 == u) && b) || (bytes_eq (name u) (name p.1) && bytes_eq (name v) (name p.0))) (same_number name injective v p.1)
+        ∙ ap (λ b. ((p.0 == u) && (p.1 == v)) || (b && bytes_eq (name v) (name p.0))) (same_number name injective u p.1)
+        ∙ ap (λ b. ((p.0 == u) && (p.1 == v)) || ((p.1 == u) && b)) (same_number name injective v p.0)
 
     symbols_named : (u v : ℕ) → words_apart x (name u) (name v) ≡ numbers_apart t u v
     symbols_named u v =
-        ap (λ b. not b && list_any (is_pair (name u) (name v)) x.pairs) (same_number-sym u v)
+        ap (λ b. not b && list_any (is_pair (name u) (name v)) x.pairs) (same_number-sym name injective u v)
         ∙ ap (λ ps. not (u == v) && list_any (is_pair (name u) (name v)) ps) (sym of.pairs)
         ∙ ap (λ b. not (u == v) && b) (any-map (is_pair (name u) (name v)) (λ p. (name p.0, name p.1)) t.pairs
         ∙ any_alike (λ p. is_pair (name u) (name v) (name p.0, name p.1)) (is_pair_of_numbers u v) t.pairs (pair_named u v))

@@ -20,7 +20,7 @@ use Rattle.source.specs.Whole.{IsWhole, AgreeOnLabels}
 use Rattle.sourcecheck.specs.declared.naming.Named.{Named}
 use Rattle.sourcecheck.specs.declared.naming.Named.TheVariants as named
 use Rattle.sourcecheck.specs.Shown.{IsSaid, IsPlaceUnder, IsEarlier, IsNamed, AreNamed}
-use Rattle.sourcecheck.proofs.Numbered.{got_of}
+use Rattle.sourceframes.proofs.Numbered.{got_of}
 
 -- ---- places and what is found
 

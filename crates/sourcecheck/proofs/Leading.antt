@@ -19,10 +19,10 @@ use Rattle.verifying.specs.Citations.{said_by}
 use Rattle.verifying.specs.Verifies.{entry}
 use Rattle.verifying.specs.Faults.{last_failure}
 use Rattle.verifying.proofs.Verified.{hypotheses_are_put, citations_are_put}
-use Rattle.sourcecheck.specs.declared.frame.Frame.{Frame}
-use Rattle.sourcecheck.specs.declared.thesis.Thesis.{Thesis}
+use Rattle.sourceframes.specs.declared.frame.Frame.{Frame}
+use Rattle.sourceframes.specs.declared.thesis.Thesis.{Thesis}
 use Rattle.sourcecheck.specs.Coded.{coded, lasts, IsCited, FailsTest, FailsToCite}
-use Rattle.sourcecheck.specs.Frames.{IsFrameOf}
+use Rattle.sourceframes.specs.Frames.{IsFrameOf}
 use Rattle.sourcecheck.specs.Shown.{shown_entry, shown, Stands, FailsBy}
 use Rattle.sourcecheck.specs.Spans.{Sheet, last_length}
 use Rattle.sourcecheck.specs.Written.{symbols_of, symbols_of_last, written_at}

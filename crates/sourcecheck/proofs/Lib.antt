@@ -3,13 +3,8 @@ pub mod Filling
 pub mod Zipped
 pub mod Leading
 pub mod Running
-pub mod Numbered
-pub mod Framed
-pub mod Placing
 pub mod Labelled
 pub mod Told
 pub mod Sourced
 pub mod Found
 pub mod Beside
-pub mod Marking
-pub mod Ordered

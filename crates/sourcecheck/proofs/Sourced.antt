@@ -13,12 +13,12 @@ use Rattle.verifying.specs.Verifies.{IsVerified, AreVerified}
 use Rattle.verifying.specs.Faults.{fault_of, first_fault, fault_in}
 use Rattle.verifying.proofs.Verified.{parts_verify}
 use Rattle.verifying.proofs.Faulty.{verified_is}
-use Rattle.sourcecheck.specs.declared.frame.Frame.{Frame}
-use Rattle.sourcecheck.specs.Frames.{IsFrameOf, AreFrames}
+use Rattle.sourceframes.specs.declared.frame.Frame.{Frame}
+use Rattle.sourceframes.specs.Frames.{IsFrameOf, AreFrames}
 use Rattle.sourcecheck.specs.declared.sources.Unverified.{Unverified}
 use Rattle.sourcecheck.specs.declared.sources.Unverified.TheVariants as unverified
 use Rattle.sourcecheck.specs.Answers.{IsRefusedAt, IsRefusedIn}
-use Rattle.sourcecheck.proofs.Numbered.{got_of}
+use Rattle.sourceframes.proofs.Numbered.{got_of}
 
 -- one more that is verified
 pub verified_more : (xs : List Assertion) (n : ℕ) (x : Assertion) → slice_get xs n ≡ Some x → AreVerified [] (take n xs)

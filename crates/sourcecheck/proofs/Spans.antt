@@ -12,7 +12,7 @@ use Rattle.std.proofs.lemmas.Option.{slice_get-map}
 use Rattle.std.proofs.lemmas.Grind.{flat_map-append}
 use Rattle.source.specs.Proofs.{Stack, push, mark, repeat}
 use Rattle.taking.proofs.Kept.{range_front}
-use Rattle.sourcecheck.specs.declared.frame.Piece.{Piece}
+use Rattle.sourceframes.specs.declared.frame.Piece.{Piece}
 use Rattle.sourcecheck.specs.Spans.{cut, AreWithin}
 use Rattle.sourcecheck.specs.Coded.{IsRefusal, piece_value, filled}
 use Rattle.derivation.specs.declared.fault.ProofFaultKind.{ProofFaultKind}

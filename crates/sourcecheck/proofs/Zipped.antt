@@ -8,7 +8,7 @@ use Rattle.std.proofs.lemmas.List.{append_cancel_left}
 use Rattle.std.proofs.lemmas.Bool.Decides.{Decides-eqb}
 use Rattle.std.proofs.lemmas.Slice.Eq.{slice_eq-Decides}
 use Rattle.mmsyntax.proofs.Options.{alike}
-use Rattle.sourcecheck.specs.declared.frame.Piece.{Piece}
+use Rattle.sourceframes.specs.declared.frame.Piece.{Piece}
 use Rattle.sourcecheck.specs.Coded.{piece_value, filled}
 
 module _ {A B : Type 0} (f : A → B → Bool) where

@@ -5,11 +5,11 @@ use Rattle.ranges.specs.Ranges.{Has}
 use Rattle.claims.specs.Claims.{Counting, Claimant, IsClaimantOf, IsNewOf}
 use Rattle.source.specs.Scopes.{Assertion}
 use Rattle.verifying.specs.Verifies.{IsVerified}
-use Rattle.sourcecheck.specs.declared.frame.Frame.{Frame}
-use Rattle.sourcecheck.specs.declared.table.Table.{Table}
+use Rattle.sourceframes.specs.declared.frame.Frame.{Frame}
+use Rattle.sourceframes.specs.declared.table.Table.{Table}
 use Rattle.sourcecheck.specs.declared.checkers.Checker.{Checker}
-use Rattle.sourcecheck.specs.Names.{words_of, IsSound, Lasts}
-use Rattle.sourcecheck.specs.Frames.{AreFrames}
+use Rattle.sourceframes.specs.Names.{words_of, IsSound, Lasts}
+use Rattle.sourceframes.specs.Frames.{AreFrames}
 use Rattle.sourcecheck.specs.Shown.{IsFaultOfAssertion}
 use Rattle.sourcecheck.specs.Found.{FoundAmong}
 

@@ -1,21 +1,21 @@
 -- Of the code's inside, apart from the rules: a citation over expressions whose symbols are numbers.
-use Rattle.std.specs.Prelude.{◌≡◌, ◌≢◌, ℕ, ◌+◌, ◌<◌, ◌≤◌, ◌^◌, ◌==◌, Bool, true, false, ◌&&◌, ◌||◌, List, [], ◌∷◌, drop, take, reverse, length}
+use Rattle.std.specs.Prelude.{◌≡◌, ◌≢◌, ℕ, ◌+◌, ◌<◌, ◌≤◌, ◌^◌, ◌==◌, Bool, true, false, ◌||◌, List, [], ◌∷◌, drop, take, reverse, length}
 use Rattle.std.specs.Prelude.{slice_index_or, Result, Ok, Err, if◌then◌else◌}
 use mathlib.Core.Bool.{not}
-use Rattle.std.specs.List.{list_any, list_all, zip, flat_map}
+use Rattle.std.specs.List.{list_all, zip, flat_map}
 use Rattle.std.specs.Cmp.Lexicographic.{pointwise}
 use Rattle.derivation.specs.declared.fault.ProofFaultKind.{ProofFaultKind}
 use Rattle.derivation.specs.declared.fault.ProofFaultKind.TheVariants.{StackShort, WrongType, HypothesisDiffers, NotDisjoint, TooLong}
 use Rattle.derivation.specs.declared.fault.ProofFaultKind.TheVariants.{NoMemory, NotOneLeft, StatementDiffers}
 use Rattle.source.specs.Proofs.{Stack}
-use Rattle.sourcecheck.specs.declared.frame.Piece.{Piece}
-use Rattle.sourcecheck.specs.declared.frame.Piece.TheVariants.{Itself, Argument}
-use Rattle.sourcecheck.specs.declared.frame.Demand.{Demand}
-use Rattle.sourcecheck.specs.declared.frame.Demand.TheVariants.{Typed, Equal}
-use Rattle.sourcecheck.specs.declared.frame.Frame.{Frame}
-use Rattle.sourcecheck.specs.declared.thesis.Thesis.{Thesis}
+use Rattle.sourceframes.specs.declared.frame.Piece.{Piece}
+use Rattle.sourceframes.specs.declared.frame.Piece.TheVariants.{Itself, Argument}
+use Rattle.sourceframes.specs.declared.frame.Demand.{Demand}
+use Rattle.sourceframes.specs.declared.frame.Demand.TheVariants.{Typed, Equal}
+use Rattle.sourceframes.specs.declared.frame.Frame.{Frame}
+use Rattle.sourceframes.specs.declared.thesis.Thesis.{Thesis}
 use Rattle.sourcecheck.specs.Spans.{Sheet}
-use Rattle.sourcecheck.specs.Pairs.{is_pair_of_numbers}
+use Rattle.sourceframes.specs.Theses.{is_variable_of, numbers_apart}
 
 -- want of memory; or so many more symbols make more than 2^28 with those that were written down
 abbrev pub IsRefusal : ℕ → ProofFaultKind → Type 0
@@ -52,12 +52,6 @@ is_equal es (Equal ps) e = pointwise (λ a b. a == b) (filled es ps.items) e
 
 abbrev pub equals_met : List Demand → List (List ℕ) → Bool
 equals_met ds es = list_all (λ p. is_equal es p.0 p.1) (zip ds es)
-
-abbrev pub is_variable_of : Thesis → ℕ → Bool
-is_variable_of t n = list_any (λ v. v == n) t.floats
-
-abbrev pub numbers_apart : Thesis → ℕ → ℕ → Bool
-numbers_apart t u v = not (u == v) && list_any (is_pair_of_numbers u v) t.pairs
 
 abbrev pub is_apart : Thesis → ℕ → List ℕ → Bool
 is_apart t u e = list_all (λ v. not (is_variable_of t v) || numbers_apart t u v) e

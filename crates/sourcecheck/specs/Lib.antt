@@ -1,11 +1,7 @@
 pub mod Spans
 pub mod Coded
 pub mod Written
-pub mod Names
-pub mod Frames
 pub mod Shown
 pub mod Answers
 pub mod Found
-pub mod Marks
-pub mod Pairs
 pub mod Checkers

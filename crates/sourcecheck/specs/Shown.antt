@@ -2,7 +2,6 @@
 use Rattle.std.specs.Prelude.{◌≡◌, ℕ, ◌+◌, ◌<◌, ◌^◌, List, [], ◌++◌, map, take, find, filter, length, slice_get, slice_index_or}
 use Rattle.std.specs.Prelude.{Option, Some, None, true, Result, Ok, MatchResult}
 use Rattle.std.specs.Option.{option_and_then}
-use Rattle.std.specs.List.{filter_map}
 use Rattle.std.specs.Str.{bytes_eq}
 use Rattle.mmtext.specs.Words.{Word}
 use Rattle.mmsyntax.specs.Tables.{place_of}
@@ -15,11 +14,12 @@ use Rattle.source.specs.Proofs.{Stack, Step, taken_by, empty, steps_of, stepped,
 use Rattle.verifying.specs.Citations.{said_by}
 use Rattle.verifying.specs.Verifies.{Entry, entry, derived, Derives, IsVerified}
 use Rattle.verifying.specs.Faults.{is_counted, last_failure, fault_from, fault_of}
-use Rattle.sourcecheck.specs.declared.frame.Frame.{Frame}
-use Rattle.sourcecheck.specs.declared.thesis.Thesis.{Thesis}
+use Rattle.sourceframes.specs.declared.frame.Frame.{Frame}
+use Rattle.sourceframes.specs.declared.thesis.Thesis.{Thesis}
 use Rattle.sourcecheck.specs.declared.naming.Named.{Named}
 use Rattle.sourcecheck.specs.declared.naming.Named.TheVariants as named
-use Rattle.sourcecheck.specs.Frames.{variable_of, AreFrames}
+use Rattle.sourceframes.specs.Frames.{AreFrames}
+use Rattle.sourceframes.specs.Theses.{IsThesisOf}
 use Rattle.sourcecheck.specs.Spans.{Sheet}
 use Rattle.sourcecheck.specs.Written.{written_at, written, AreTooLong, IsTooLong, HasTooLong}
 
@@ -28,11 +28,6 @@ shown_entry name e = Ok (map name e)
 
 abbrev pub shown : (ℕ → Word) → Stack (List ℕ) → Stack Entry
 shown name s = record { entries = map (shown_entry name) s.entries; marked = map (shown_entry name) s.marked }
-
--- the numbers of a theorem's variables and pairs stand for these
-pub record IsThesisOf (name : ℕ → Word) (t : Thesis) (x : Assertion) : Type 0 where
-  pub floats : map name t.floats ≡ filter_map variable_of x.active
-  pub pairs : map {B = Word × Word} (λ p. (name p.0, name p.1)) t.pairs ≡ x.pairs
 
 -- what stands while a proof of x is checked
 pub record Stands (name : ℕ → Word) (earlier : List Assertion) (x : Assertion) (fs : List Frame) (t : Thesis) : Type 0 where

@@ -6,8 +6,7 @@ ghost use Rattle.claims.specs.Claims.{IsClaimantOf, AreClaimed};
 ghost use Rattle.sourcecheck.specs.Found.{earlier, earliest};
 ghost use Rattle.sourcecheck.specs.Checkers.{checker_of, IsFoundAmong, Knows, IsReady, HasChecked};
 
-use crate::frame::Frame;
-use crate::table::Table;
+use crate::stack::Stack;
 use crate::theorem::{check_theorem, fault};
 use claims::{Claimant, Numbers};
 use derivation::{ProofFault, ProofFaultKind};
@@ -15,6 +14,7 @@ use following::Follow;
 use rayon::current_num_threads;
 use scopes::Scopes;
 use source::Declared;
+use sourceframes::{Frame, Table};
 use std::alloc::{AllocError, Global};
 use std::thread;
 use std::thread::Threads;
@@ -44,6 +44,7 @@ pub(crate) struct Framed<'s, 'a> {
 fn found_at<'a, D: Declared<'a>>(
     alloc: Global,
     own: &mut Option<Table<'a>>,
+    room: &mut Stack,
     frames: &[Frame],
     declared: &D,
     place: usize,
@@ -57,7 +58,7 @@ fn found_at<'a, D: Declared<'a>>(
     let Some(table) = own else {
         return Some((place, fault(ProofFaultKind::NoMemory)));
     };
-    match check_theorem(alloc, table, frames, declared, place) {
+    match check_theorem(alloc, table, room, frames, declared, place) {
         Ok(()) => None,
         Err(fault) => Some((place, fault)),
     }
@@ -79,10 +80,18 @@ fn check_claimed(
     ensures { HasChecked framed.now.declared.now.stand.scope.assertions numbers.now checker.new }
 {
     let mut own = framed.table.copy(alloc).ok();
+    let mut room = Stack::new(alloc);
     while let Some(place) = checker.claimant.claim(numbers) {
         follow.pass_assertion();
         if checker.found.is_none() {
-            checker.found = found_at(alloc, &mut own, framed.frames, framed.declared, place);
+            checker.found = found_at(
+                alloc,
+                &mut own,
+                &mut room,
+                framed.frames,
+                framed.declared,
+                place,
+            );
         }
     }
 }

@@ -5,10 +5,9 @@ ghost use Rattle.sourcecheck.specs.Spans.{last_length};
 ghost use Rattle.sourcecheck.specs.Coded.{IsCited, FailsToCite};
 
 use crate::fitting::{equals_met, pairs_met, types_met};
-use crate::frame::Frame;
 use crate::stack::Stack;
-use crate::thesis::Thesis;
 use derivation::ProofFaultKind;
+use sourceframes::{Frame, Thesis};
 
 /// Puts what a citation of the frame gives in the place of the last expressions, which it takes.
 pub(crate) fn cite(thesis: &Thesis, frame: &Frame, stack: &mut Stack) -> Result<(), ProofFaultKind>

@@ -2,11 +2,11 @@
 
 ghost use Rattle.std.specs.Prelude.{◌≡◌, ◌↔◌, ◌&&◌, ◌||◌, IsTrue, length, drop};
 ghost use mathlib.Core.Bool.{not};
-ghost use Rattle.sourcecheck.specs.Coded.{piece_value, filled, begins_with_number, is_typed, types_met, is_equal, equals_met, pairs_met, is_variable_of, numbers_apart, is_apart, are_numbers_apart};
+ghost use Rattle.sourcecheck.specs.Coded.{piece_value, filled, begins_with_number, is_typed, types_met, is_equal, equals_met, pairs_met, is_apart, are_numbers_apart};
+ghost use Rattle.sourceframes.specs.Theses.{is_variable_of, numbers_apart};
 
-use crate::frame::{Demand, Piece};
 use crate::stack::Arguments;
-use crate::thesis::Thesis;
+use sourceframes::{Demand, Piece, Thesis};
 use std::slice;
 
 /// Whether an expression begins with a symbol.

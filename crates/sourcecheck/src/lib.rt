@@ -4,17 +4,10 @@
 mod checkers;
 mod citing;
 mod fitting;
-mod frame;
-mod framing;
-mod marks;
 mod naming;
-mod pairs;
 mod sources;
 mod stack;
 mod stepping;
-mod table;
 mod theorem;
-mod thesis;
-mod variables;
 
 pub use sources::{Unverified, check_source};

@@ -8,11 +8,11 @@ ghost use Rattle.source.specs.Scopes.{Assertion, label_of};
 ghost use Rattle.source.specs.Views.{seen_words, seen_hypothesis, seen_hypotheses};
 ghost use Rattle.source.specs.Whole.{IsWhole, AgreeOnLabels};
 ghost use Rattle.verifying.specs.Citations.{said_by};
-ghost use Rattle.sourcecheck.specs.Names.{words_of, IsSound, Keeps, Lasts};
+ghost use Rattle.sourceframes.specs.Names.{words_of, IsSound, Keeps, Lasts};
 ghost use Rattle.sourcecheck.specs.Shown.{IsSaid, IsPlaceUnder, IsEarlier, IsNamed, AreNamed, IsPlaced};
 
-use crate::table::Table;
 use source::{Declared, HypothesisWords};
+use sourceframes::Table;
 use std::alloc::{AllocError, Global};
 
 /// How many of the last hypotheses are gone through before all are noted: a block has seldom more of its own.

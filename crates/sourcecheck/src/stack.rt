@@ -5,8 +5,8 @@ ghost use Rattle.source.specs.Proofs.{push, mark, repeat};
 ghost use Rattle.sourcecheck.specs.Spans.{cut, AreWithin};
 ghost use Rattle.sourcecheck.specs.Coded.{IsRefusal, piece_value, filled};
 
-use crate::frame::Piece;
 use derivation::ProofFaultKind;
+use sourceframes::Piece;
 use std::alloc::{AllocError, Global};
 use std::marker::Model;
 use std::mem;

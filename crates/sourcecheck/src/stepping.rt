@@ -12,12 +12,11 @@ ghost use Rattle.sourcecheck.specs.Coded.{EndFails};
 ghost use Rattle.sourcecheck.specs.Shown.{Stands, IsNamed, AreNamed, IsPlaced, Leads, Tells};
 
 use crate::citing::cite;
-use crate::frame::Frame;
 use crate::naming::Named;
 use crate::stack::Stack;
-use crate::thesis::Thesis;
 use derivation::{ProofFault, ProofFaultKind};
 use source::Code;
+use sourceframes::{Frame, Thesis};
 
 /// A label.
 fn take_label(

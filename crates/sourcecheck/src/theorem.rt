@@ -7,17 +7,16 @@ ghost use Rattle.source.specs.Letters.{is_absent};
 ghost use Rattle.source.specs.Proofs.{step_of, is_unfinished};
 ghost use Rattle.source.specs.Views.{seen_words, seen_proof};
 ghost use Rattle.source.specs.Whole.{IsWhole};
-ghost use Rattle.sourcecheck.specs.Names.{words_of, IsSound, Keeps, Lasts};
-ghost use Rattle.sourcecheck.specs.Frames.{AreFrames};
+ghost use Rattle.sourceframes.specs.Names.{words_of, IsSound, Keeps, Lasts};
+ghost use Rattle.sourceframes.specs.Frames.{AreFrames};
 ghost use Rattle.sourcecheck.specs.Shown.{Tells, TellsProof, TellsAssertion};
 
-use crate::frame::Frame;
 use crate::naming::name_labels;
+use crate::stack::Stack;
 use crate::stepping::take_codes;
-use crate::table::Table;
-use crate::thesis::thesis_of;
 use derivation::{ProofFault, ProofFaultKind};
 use source::{Declared, ProofWords};
+use sourceframes::{Frame, Table, thesis_of};
 use std::alloc::Global;
 use taking::{Counted, count_labels, is_unfinished};
 
@@ -32,6 +31,7 @@ pub(crate) fn fault(kind: ProofFaultKind) -> ProofFault
 fn check_counted<'a, D: Declared<'a>>(
     alloc: Global,
     table: &mut Table<'a>,
+    room: &mut Stack,
     frames: &[Frame],
     declared: &D,
     place: usize,
@@ -65,7 +65,7 @@ fn check_counted<'a, D: Declared<'a>>(
         return Err(fault(ProofFaultKind::NoMemory));
     };
     take_codes(
-        &mut table.stack,
+        room,
         frames,
         &thesis,
         named.as_slice(),
@@ -78,6 +78,7 @@ fn check_counted<'a, D: Declared<'a>>(
 fn check_proof<'a, D: Declared<'a>>(
     alloc: Global,
     table: &mut Table<'a>,
+    room: &mut Stack,
     frames: &[Frame],
     declared: &D,
     place: usize,
@@ -99,7 +100,7 @@ fn check_proof<'a, D: Declared<'a>>(
     match count_labels(alloc, mandatory, proof) {
         Err(_) => Err(fault(ProofFaultKind::NoMemory)),
         Ok(None) => Err(fault(ProofFaultKind::UnknownStep)),
-        Ok(Some(counted)) => check_counted(alloc, table, frames, declared, place, counted),
+        Ok(Some(counted)) => check_counted(alloc, table, room, frames, declared, place, counted),
     }
 }
 
@@ -113,6 +114,7 @@ fn check_proof<'a, D: Declared<'a>>(
 pub(crate) fn check_theorem<'a, D: Declared<'a>>(
     alloc: Global,
     table: &mut Table<'a>,
+    room: &mut Stack,
     frames: &[Frame],
     declared: &D,
     place: usize,
@@ -132,5 +134,5 @@ pub(crate) fn check_theorem<'a, D: Declared<'a>>(
     if is_unfinished(proof) {
         return Ok(());
     }
-    check_proof(alloc, table, frames, declared, place, proof)
+    check_proof(alloc, table, room, frames, declared, place, proof)
 }

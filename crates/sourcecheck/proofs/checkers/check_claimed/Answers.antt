@@ -2,7 +2,7 @@
 use Rattle.std.proofs.Common.{not, ap, sym, subst, ◌∙◌}
 use Rattle.std.specs.Prelude.{Option, IfSome}
 use Rattle.claims.proofs.Claiming.{claim_nears}
-use Rattle.sourcecheck.specs.declared.table.Table.{Table}
+use Rattle.sourceframes.specs.declared.table.Table.{Table}
 use Rattle.sourcecheck.specs.declared.checkers.Checker.{Checker}
 use Rattle.sourcecheck.specs.Checkers.{PassesAt, FailsAt, Knows}
 use Rattle.sourcecheck.proofs.Found.{claimed_passed, claimed_behind, claimed_own}

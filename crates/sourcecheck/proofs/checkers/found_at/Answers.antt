@@ -1,7 +1,7 @@
 -- What is left to show of `found_at`.
 use Rattle.std.proofs.Common.{◌≤◌, length, refl, subst, arith}
 use Rattle.std.specs.Prelude.{Option, IfSome}
-use Rattle.sourcecheck.specs.declared.table.Table.{Table}
+use Rattle.sourceframes.specs.declared.table.Table.{Table}
 use Rattle.sourcecheck.specs.Checkers.{Knows}
 use Rattle.sourcecheck.proofs.Beside.{knows_front, knows_more}
 use Rattle.sourcecheck.proofs.checkers.found_at.Goals as goal

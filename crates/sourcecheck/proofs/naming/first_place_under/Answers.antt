@@ -5,7 +5,7 @@ use Rattle.std.specs.Borrow.{Bor}
 use Rattle.source.specs.Scopes.{label_of}
 use Rattle.source.specs.declared.contents.HypothesisWords.{HypothesisWords}
 use Rattle.source.specs.Views.{seen_hypothesis}
-use Rattle.sourcecheck.proofs.Framed.{first_of, still_none}
+use Rattle.sourceframes.proofs.Framed.{first_of, still_none}
 use Rattle.sourcecheck.proofs.naming.first_place_under.Goals as goal
 
 pub returns-then-eq : goal.returns-then-eq

@@ -4,9 +4,9 @@ use Rattle.std.specs.Borrow.{Bor}
 use Rattle.std.proofs.lemmas.List.{map_more, take_all}
 use Rattle.std.proofs.lemmas.List.Elements.{All-push}
 use Rattle.source.specs.Views.{seen_words}
-use Rattle.sourcecheck.specs.Names.{words_of, name_in, Lasts}
+use Rattle.sourceframes.specs.Names.{words_of, name_in, Lasts}
 use Rattle.sourcecheck.specs.Shown.{IsPlaced, AreNamed}
-use Rattle.sourcecheck.proofs.Numbered.{grows_on, lasts_on}
+use Rattle.sourceframes.proofs.Numbered.{grows_on, lasts_on}
 use Rattle.sourcecheck.proofs.Labelled.{named_push}
 use Rattle.sourcecheck.proofs.naming.name_labels.Goals as goal
 

@@ -3,7 +3,7 @@ use Rattle.std.proofs.Common.{◌≡◌, All, Some, take}
 use Rattle.std.specs.Prelude.{slice_get}
 use Rattle.source.specs.Scopes.{Assertion}
 use Rattle.source.specs.Views.{seen_words}
-use Rattle.sourcecheck.specs.Names.{words_of, IsSound, Grows, Lasts}
+use Rattle.sourceframes.specs.Names.{words_of, IsSound, Grows, Lasts}
 use Rattle.sourcecheck.specs.Shown.{IsPlaced, AreNamed}
 use Rattle.sourcecheck.proofs.naming.name_labels.Given as goal
 

@@ -3,7 +3,7 @@ use Rattle.std.proofs.Common.{[], take}
 use Rattle.std.proofs.lemmas.Result.{IfOk-weaker}
 use Rattle.source.specs.Views.{seen_hypotheses}
 use Rattle.source.proofs.Asked.{active_are}
-use Rattle.sourcecheck.specs.Names.{name_in}
+use Rattle.sourceframes.specs.Names.{name_in}
 use Rattle.sourcecheck.proofs.Labelled.{assertion_named, said_named, agree_at}
 use Rattle.sourcecheck.proofs.naming.named_by.Goals as goal
 

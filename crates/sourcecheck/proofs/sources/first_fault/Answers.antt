@@ -1,6 +1,6 @@
 -- What is left to show of `first_fault`.
 use Rattle.std.proofs.Common.{◌≤◌, List, length, sym, subst, arith}
-use Rattle.sourcecheck.specs.declared.frame.Frame.{Frame}
+use Rattle.sourceframes.specs.declared.frame.Frame.{Frame}
 use Rattle.sourcecheck.specs.Checkers.{Knows}
 use Rattle.sourcecheck.proofs.sources.first_fault.Goals as goal
 

@@ -2,9 +2,9 @@
 use Rattle.std.proofs.Common.{◌≡◌, ◌<◌, ◌+◌, ◌++◌, length, take, sym, subst, ◌∙◌, arith}
 use Rattle.std.proofs.lemmas.List.{length-take-le, take_all}
 use Rattle.mmsyntax.proofs.Items.{there_is}
-use Rattle.sourcecheck.specs.Names.{words_of, name_in, Lasts}
-use Rattle.sourcecheck.specs.Frames.{AreFrames}
-use Rattle.sourcecheck.proofs.Numbered.{lasts_on}
+use Rattle.sourceframes.specs.Names.{words_of, name_in, Lasts}
+use Rattle.sourceframes.specs.Frames.{AreFrames}
+use Rattle.sourceframes.proofs.Numbered.{lasts_on}
 use Rattle.sourcecheck.proofs.Sourced.{frames_more}
 use Rattle.sourcecheck.proofs.sources.frames_of.Goals as goal
 

@@ -1,7 +1,7 @@
 -- What the loop of `frames_of` keeps.
 use Rattle.std.proofs.Common.{◌≡◌, length, take}
-use Rattle.sourcecheck.specs.Names.{words_of, IsSound, Lasts}
-use Rattle.sourcecheck.specs.Frames.{AreFrames}
+use Rattle.sourceframes.specs.Names.{words_of, IsSound, Lasts}
+use Rattle.sourceframes.specs.Frames.{AreFrames}
 use Rattle.sourcecheck.proofs.sources.frames_of.Given as goal
 
 abbrev pub invariant-loop-place : goal.invariant-loop-place

@@ -7,10 +7,12 @@ use Rattle.source.specs.Letters.{is_absent}
 use Rattle.source.specs.Proofs.{step_of}
 use Rattle.source.specs.Views.{seen_words}
 use Rattle.source.proofs.Asked.{statement_is}
-use Rattle.sourcecheck.specs.Names.{looks_up, words_of, name_in}
-use Rattle.sourcecheck.specs.Frames.{AreFrames}
-use Rattle.sourcecheck.specs.Shown.{IsThesisOf, Stands, AreNamed, Tells}
-use Rattle.sourcecheck.proofs.Numbered.{grows_on, lasts_on, lasts_now, unique_by, injective}
+use Rattle.mmsyntax.proofs.Options.{at_any_result}
+use Rattle.sourceframes.specs.Names.{looks_up, words_of, name_in}
+use Rattle.sourceframes.specs.Frames.{AreFrames}
+use Rattle.sourceframes.specs.Theses.{IsThesisOf}
+use Rattle.sourcecheck.specs.Shown.{Stands, AreNamed, Tells, IsFaultOfKind}
+use Rattle.sourceframes.proofs.Numbered.{grows_on, lasts_on, lasts_now, unique_by, injective}
 use Rattle.sourcecheck.proofs.theorem.check_counted.Goals as goal
 
 pub returns-clause-tells : goal.returns-clause-tells
@@ -50,3 +52,51 @@ returns-clause-tells g c = λ x at there.
     subst (λ cs. Tells earlier x (map (step_of labels) cs) c.take_codes.result) c.as_slice-3.ensures
     (c.take_codes.ensures name earlier x labels stands named statement
     (subst (λ cs. list_any is_absent cs ≡ false) (sym c.as_slice-3.ensures) there))
+
+pub returns-clause-keeps : goal.returns-clause-keeps
+returns-clause-keeps g c =
+    let first = words_of c.numbers.new.self in
+    let end = words_of c.thesis_of.new.table in
+    let near = c.in-Ok-thesis_of.ensures.keeps.grows in
+    let mid = grows_on first (words_of c.name_labels.new.table) end c.in-Ok-name_labels.ensures.keeps.grows near in
+    at_any_result c.take_codes.result (record {
+      sound = c.in-Ok-thesis_of.ensures.keeps.sound;
+      grows = grows_on (words_of c.args.table.now) first end c.in-Ok.ensures.keeps.grows mid;
+    })
+
+-- of want of memory nothing is said
+pub returns-in_default-numbers-clause-tells : goal.returns-in_default-numbers-clause-tells
+returns-in_default-numbers-clause-tells g c = λ x at there.
+    let earlier = take c.args.place (g.D.Declared.scope c.args.declared.now).assertions in
+    let steps = map (step_of (seen_words c.args.counted.labels.items)) c.args.counted.codes in
+    subst (IsFaultOfKind earlier x steps c.fault.result.step) (sym c.fault.ensures) tt
+
+pub returns-in_default-numbers-clause-keeps : goal.returns-in_default-numbers-clause-keeps
+returns-in_default-numbers-clause-keeps g c = tt
+
+pub returns-in_default-active-clause-tells : goal.returns-in_default-active-clause-tells
+returns-in_default-active-clause-tells g c = λ x at there.
+    let earlier = take c.args.place (g.D.Declared.scope c.args.declared.now).assertions in
+    let steps = map (step_of (seen_words c.args.counted.labels.items)) c.args.counted.codes in
+    subst (IsFaultOfKind earlier x steps c.fault-in_default-active.result.step) (sym c.fault-in_default-active.ensures) tt
+
+pub returns-in_default-active-clause-keeps : goal.returns-in_default-active-clause-keeps
+returns-in_default-active-clause-keeps g c = tt
+
+pub returns-in_default-name_labels-clause-tells : goal.returns-in_default-name_labels-clause-tells
+returns-in_default-name_labels-clause-tells g c = λ x at there.
+    let earlier = take c.args.place (g.D.Declared.scope c.args.declared.now).assertions in
+    let steps = map (step_of (seen_words c.args.counted.labels.items)) c.args.counted.codes in
+    subst (IsFaultOfKind earlier x steps c.fault-in_default-name_labels.result.step) (sym c.fault-in_default-name_labels.ensures) tt
+
+pub returns-in_default-name_labels-clause-keeps : goal.returns-in_default-name_labels-clause-keeps
+returns-in_default-name_labels-clause-keeps g c = tt
+
+pub returns-in_default-thesis_of-clause-tells : goal.returns-in_default-thesis_of-clause-tells
+returns-in_default-thesis_of-clause-tells g c = λ x at there.
+    let earlier = take c.args.place (g.D.Declared.scope c.args.declared.now).assertions in
+    let steps = map (step_of (seen_words c.args.counted.labels.items)) c.args.counted.codes in
+    subst (IsFaultOfKind earlier x steps c.fault-in_default-thesis_of.result.step) (sym c.fault-in_default-thesis_of.ensures) tt
+
+pub returns-in_default-thesis_of-clause-keeps : goal.returns-in_default-thesis_of-clause-keeps
+returns-in_default-thesis_of-clause-keeps g c = tt

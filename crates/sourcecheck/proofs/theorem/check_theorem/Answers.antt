@@ -5,7 +5,7 @@ use Rattle.std.specs.Borrow.{Bor}
 use Rattle.source.specs.declared.standing.ProofWords.{ProofWords}
 use Rattle.source.specs.Views.{seen_proof}
 use Rattle.source.proofs.Asked.{whole_at, proof_is}
-use Rattle.sourcecheck.proofs.Numbered.{grows_not}
+use Rattle.sourceframes.proofs.Numbered.{grows_not}
 use Rattle.sourcecheck.proofs.Told.{assertion_told}
 use Rattle.sourcecheck.proofs.theorem.check_theorem.Goals as goal
 

@@ -1,8 +1,0 @@
--- What is left to show of `found_of`.
-use Rattle.sourcecheck.proofs.Ordered.{found_on}
-use Rattle.sourcecheck.proofs.pairs.found_of.Goals as goal
-
-pub loop-pair-preserved : goal.loop-pair-preserved
-loop-pair-preserved c =
-    found_on c.args.pairs.now c.loop-pair.pair-index c.loop-pair.found c.add.new.found c.loop-pair-test.true c.in_ok-add.ensures
-    c.loop-pair.invariant
