@@ -35,7 +35,7 @@ pub capped : (g : Word → Bytes) (labels : List (Bor (List ℕ))) (told : ℕ) 
     ≡ map g (take most_told (seen_words labels)) ++ more_line (length (seen_words labels) - most_told)
 capped g labels told is =
     let first : seen_words (take told labels) ≡ take most_told (seen_words labels) =
-    ap (λ k. seen_words (take k labels)) is ∙ ap (λ k. seen_words (take k labels)) (least (length labels) most_told) ∙ ap seen_words (take_min most_told labels)
+    ap (λ k. seen_words (take k labels)) (is ∙ least (length labels) most_told) ∙ ap seen_words (take_min most_told labels)
     ∙ sym (take-map (λ (w : Bor (List ℕ)). w.now) most_told labels) in
     let long : length (seen_words labels) ≡ length labels = length-map labels (λ (w : Bor (List ℕ)). w.now) in
     let rest : length labels - told ≡ length (seen_words labels) - most_told = omega (arith, is, long) in

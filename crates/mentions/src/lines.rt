@@ -163,8 +163,8 @@ fn capped_lines(
     Ok(said)
 }
 
-/// A line for each of the first of these labels that comments of the source with the edits mention, and how many more there are. Where there
-/// are no labels, the source isn't gone through.
+/// A line for each of the first of these labels that comments of a text mention, and how many more there are. Where there are no labels,
+/// the text isn't gone through.
 ///
 /// # Errors
 ///

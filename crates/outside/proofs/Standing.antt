@@ -199,7 +199,8 @@ stays o = goes_on o o.holds o.out o.out_failed o.err o.err_failed refl (λ kind 
 adds_none : (o : Outside) (e : Event) → IsHeld o e → PutsOut o.out_failed e [] → PutsErr o.err_failed o.tells_terminal e []
     → Adds (AreDone o) (AreDone o) (e ∷ [])
 adds_none o e held out err =
-    adds_one o o e (stays o) held (grows_none (PutsOut o.out_failed) o.out e out) (grows_none (PutsErr o.err_failed o.tells_terminal) o.err e err)
+    adds_one o o e (stays o) held (grows_none (PutsOut o.out_failed) o.out e out)
+    (grows_none (PutsErr o.err_failed o.tells_terminal) o.err e err)
 
 -- it is asked whether two paths lead to one file, which are equal, or of which the system tells it
 pub adds_compare : (o : Outside) (one other : Bytes) (same : Bool) → ((one ≡ other) × (same ≡ true)) ⊎ o.tells_one one other same
