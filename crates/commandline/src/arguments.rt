@@ -21,8 +21,19 @@ const DATABASE: &str = "A Metamath database";
 /// What is said of the history of a run.
 const HISTORY: &str = "The history of a run over it";
 
+/// What is said of a history whose edits are given back.
+const GIVEN_HISTORY: &str = "The history of a run over it; - is the standard input";
+
+/// What is said of the scripts of a run.
+const SCRIPTS: &str = "Edit scripts: each worker runs one after another";
+
+/// What is said of the scripts of an edit.
+const EDIT_SCRIPTS: &str =
+    "Edit scripts: each worker runs one after another; - is the standard input";
+
 /// What is said of a source.
-const SOURCE: &str = "A database in the whole language of Metamath, without $[";
+const SOURCE: &str =
+    "A database in the whole language of Metamath, without $[; - is the standard input";
 
 /// `NAME`: the path of a file that a job needs.
 fn file<'a>(alloc: Global, name: &'a str, help: &'a str) -> Arg<'a>
@@ -108,12 +119,12 @@ fn flag<'a>(alloc: Global, name: &'a str, help: &'a str) -> Arg<'a>
         .action(ArgAction::SetTrue)
 }
 
-/// The scripts of a run.
-fn scripts<'a>(alloc: Global) -> Arg<'a>
+/// The scripts of a run or of an edit.
+fn scripts<'a>(alloc: Global, help: &'a str) -> Arg<'a>
     ensures { IsArgument scripts_rule result }
 {
     Arg::new(alloc, "SCRIPT")
-        .help("Edit scripts: each worker runs one after another")
+        .help(help)
         .required(true)
         .num_args(1..)
         .action(ArgAction::Append)
@@ -183,7 +194,7 @@ fn run_line<'a>(alloc: Global) -> Result<Command<'a>, AllocError>
     );
     let line = with_argument(line, history);
     let line = with_argument(line, file(alloc, "DB", DATABASE));
-    with_argument(line, scripts(alloc))
+    with_argument(line, scripts(alloc, SCRIPTS))
 }
 
 /// `mmrefactor replay DB HISTORY`.
@@ -241,10 +252,10 @@ fn give_line<'a>(alloc: Global) -> Result<Command<'a>, AllocError>
     let library = file(
         alloc,
         "LIBRARY",
-        "The library that `take` printed of the source",
+        "The library that `take` printed of the source; - is the standard input",
     );
     let line = with_argument(line, library);
-    with_argument(line, file(alloc, "HISTORY", HISTORY))
+    with_argument(line, file(alloc, "HISTORY", GIVEN_HISTORY))
 }
 
 /// `mmrefactor verify [--workers N] SOURCE`.
@@ -306,7 +317,7 @@ fn edit_line<'a>(alloc: Global) -> Result<Command<'a>, AllocError>
     );
     let line = with_argument(line, force);
     let line = with_argument(line, file(alloc, "SOURCE", SOURCE));
-    with_argument(line, scripts(alloc))
+    with_argument(line, scripts(alloc, EDIT_SCRIPTS))
 }
 
 /// The command lines that the program takes: `mmrefactor check DB`, `mmrefactor run [--workers N] [--room W] [--history FILE] DB

@@ -192,6 +192,10 @@ impl Disk for Memory {
 pub(crate) struct Silent {}
 
 impl Streams for Silent {
+    fn is_terminal(&self) -> bool {
+        false
+    }
+
     fn read_input(&self, _most: u64, _text: &mut Vec<u8>) -> io::Result<()> {
         Err(io::Error::from(ErrorKind::Unsupported))
     }

@@ -14,10 +14,12 @@ use Rattle.verifytext.specs.Verdicts.{IsVerifiedText}
 use Rattle.pasting.specs.Quotes.{Quotation}
 use Rattle.dressing.specs.Dressed.{IsDressed}
 use Rattle.editedsource.specs.Gone.{lost, spoken_line}
+use Rattle.mentions.specs.Lines.{mention_lines}
+use Rattle.mentions.specs.Vanished.{vanished}
 use Rattle.editedsource.specs.declared.completing.Finished.{Finished}
 
 -- it has the edits of a history over the library that was taken by a choice, with these proofs as they were given, and these descriptions
--- of what was added; it verifies, and where it speaks of what was deleted is told
+-- of what was added; it verifies, and where it speaks of what was deleted is told, and what it still mentions
 pub record IsFinished (path source : Bytes) (old : Scope) (choice : Choice) (taken : Taken) (entries : List Entry) (edited : Listed)
     (quotations : List Quotation) (descriptions : List Change) (f : Finished) : Type 0 where
   pub edits : Bytes
@@ -26,3 +28,4 @@ pub record IsFinished (path source : Bytes) (old : Scope) (choice : Choice) (tak
   pub much : Verified
   pub verifies : IsVerifiedText f.out.items much
   pub spoken : map string_bytes f.spoken.items ≡ map (spoken_line path f.out.items) (spoken_in (lost is_edited.followed) f.out.items)
+  pub mentions : map string_bytes f.mentions.items ≡ mention_lines f.out.items (vanished old is_edited.followed)

@@ -23,6 +23,7 @@ use dressing::{Given, dress};
 use editscripts::Unedited;
 use following::Follow;
 use givetext::{Draft, EditedLibrary, draft_edits, look_at_draft, read_draft};
+use mentions::{mention_lines, vanished_of};
 use scopes::Scopes;
 use source::Declared;
 use source::laws::sources_are_whole;
@@ -122,6 +123,8 @@ pub struct Finished {
     pub out: Vec<u8>,
     /// A line for each place at which a comment of it speaks of an assertion that was deleted.
     pub spoken: Vec<String>,
+    /// The lines that say which labels of the source that no assertion has any more its comments still mention.
+    pub mentions: Vec<String>,
 }
 
 /// The source with the edits of a run, dressed in what scripts give, once it was looked at and verified.
@@ -151,6 +154,7 @@ pub fn finish<'x, 'a: 'x>(
     // For the proof: what is read is whole.
     sources_are_whole();
     look_at(rt, alloc, keys, &old, &new, edit, &draft)?;
+    let vanished = vanished_of(alloc, keys, &old, &draft.following)?;
     // Its tables are as large as those of the new text, which is verified without them.
     drop(old);
     let (path, edits) = (edit.path, draft.text.as_slice());
@@ -163,5 +167,10 @@ pub fn finish<'x, 'a: 'x>(
     } = draft;
     let out = dressed.unwrap_or(text);
     let spoken = spoken_lines(alloc, keys, path, &following, out.as_slice())?;
-    Ok(Finished { out, spoken })
+    let mentions = mention_lines(alloc, keys, vanished.as_slice(), out.as_slice())?;
+    Ok(Finished {
+        out,
+        spoken,
+        mentions,
+    })
 }

@@ -84,17 +84,20 @@ module _ (source : Bytes) (texts : List Bytes) (s : Scope) (force : Bool) (b : C
     pub accounted : (paths : List Bytes) (workers : ℕ) (room : Room) (e : Edited)
         (w : IsWorked db workers (room_of room db ss) ss (lists_of e.outcomes.items) e.history e.library)
         (asked : Bool) (a : Account) → IsFirstAccount paths texts b (lists_of e.outcomes.items) asked a
-        → (spoken : Vec (String Global) Global) (told : List Bytes) → map string_bytes spoken.items ≡ told
-        → IsAccount paths (run_of workers room e w) asked told (record { undone = a.undone; spoken = spoken; replies = a.replies })
-    accounted paths workers room e w asked a first spoken told said =
+        → (spoken mentions : Vec (String Global) Global) (told named : List Bytes) → map string_bytes spoken.items ≡ told
+        → map string_bytes mentions.items ≡ named
+        → IsAccount paths (run_of workers room e w) asked told named (record a { spoken = spoken; mentions = mentions })
+    accounted paths workers room e w asked a first spoken mentions told named said mentioned =
         let rows = lists_of e.outcomes.items in
         let begins = sym is.beginnings in
         let run = is.opened.scripts in
         record {
+          counts = first.counts;
           undone =
               first.undone ∙ ap (λ bs. all_undone paths texts bs b.opened.scripts.items rows) begins
               ∙ ap (λ ss. all_undone paths texts (map (λ out. out.beginnings) is.ranked) ss rows) run;
           spoken = said;
+          mentioned = mentioned;
           replies =
               first.replies
               ∙ ap (λ bs. told_if asked (replies_in b.taken.database.prelude paths texts bs b.opened.scripts.items rows)) begins

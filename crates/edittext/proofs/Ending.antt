@@ -14,7 +14,7 @@ use Rattle.std.specs.Prelude.{string_bytes}
 
 -- it is printed; or a line says why not, of which this is so
 pub told_behind : (P : Told → Type 0) (Q : Bytes → Type 0) (a : Account) (r : Result Finished Unedited)
-    → IfOk r (λ f. P (told.Printed f.out (record { undone = a.undone; spoken = f.spoken; replies = a.replies })))
+    → IfOk r (λ f. P (told.Printed f.out (record a { spoken = f.spoken; mentions = f.mentions })))
     → IfErr r (IsToldBy Q)
     → ((line : _) → Q (string_bytes line) → P (told.Unfinished a line)) → IfOk (told_of a r) P
 told_behind P Q a (Ok f) printed refused says = printed

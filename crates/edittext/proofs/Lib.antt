@@ -1,2 +1,3 @@
 pub mod Beginning
+pub mod Counting
 pub mod Ending

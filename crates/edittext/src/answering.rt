@@ -15,6 +15,7 @@ ghost use Rattle.pasting.specs.Views.{seen_quotation};
 
 use crate::account::Account;
 use crate::call::{close_run, run_over};
+use crate::counts::counts_of;
 use dressing::Given;
 use editedsource::{Finished, SourceEdit, finish};
 use editopening::{Begun, EditOrder, begin, read_old};
@@ -70,8 +71,10 @@ fn account_of(
     let prelude = begun.taken.database.prelude();
     let replies = replies_if(alloc, order.with_replies, prelude, &run)?;
     Ok(Account {
+        counts: counts_of(outcomes),
         undone,
         spoken: Vec::new(alloc),
+        mentions: Vec::new(alloc),
         replies,
     })
 }
@@ -93,7 +96,20 @@ fn told_of(account: Account, finished: Result<Finished, Unedited>) -> Result<Tol
     ensures { result ≡ told_of account finished }
 {
     match finished {
-        Ok(Finished { out, spoken }) => Ok(Told::Printed(out, Account { spoken, ..account })),
+        Ok(
+            Finished {
+                out,
+                spoken,
+                mentions,
+            },
+        ) => Ok(Told::Printed(
+            out,
+            Account {
+                spoken,
+                mentions,
+                ..account
+            },
+        )),
         Err(Unedited::Refused(line)) => Ok(Told::Unfinished(account, line)),
         Err(Unedited::NoMemory) => Err(Unedited::NoMemory),
     }

@@ -4,6 +4,8 @@
 mod account;
 mod answering;
 mod call;
+mod counts;
 
 pub use account::Account;
 pub use answering::{Told, answer_edit};
+pub use counts::Counts;

@@ -4,8 +4,8 @@ use Rattle.std.specs.Prelude.{IfErr, IfOk, IfSome, Vec}
 use Rattle.std.specs.declared.alloc.Global.{Global}
 use Rattle.std.specs.Io.KnownBytes.{Appends}
 use Rattle.clap.specs.declared.error.Error.{Error}
-use Rattle.outside.specs.Events.{Adds, Bytes, Event, asks, compares, lacks, leaves, leaving, path_left, prints, reading_of, reads, replaces, says, shows, writes}
-use Rattle.outside.specs.Output.{AreDone, AreHeld, AreOwn, IsHeld, IsLine, IsOn, IsOwn, IsPut, Outside, PutsErr, PutsOut, Stands}
+use Rattle.outside.specs.Events.{Adds, Bytes, Event, asks, compares, lacks, leaves, leaving, notes, path_left, prints, reading_of, reads, replaces, says, shows, writes}
+use Rattle.outside.specs.Output.{AreDone, AreHeld, AreOwn, IsHeld, IsLine, IsNote, IsOn, IsOwn, IsPut, Outside, PutsErr, PutsOut, Stands}
 use Rattle.outside.specs.Streams.{IsAppended, Lasts, Stays}
 use Rattle.outside.specs.Deeds.{Failure}
 use Rattle.outside.specs.Reasons.{reason_by}
@@ -87,19 +87,27 @@ out_lasts f (replaces path text why) here put = put
 out_lasts f (leaves path) here put = put
 out_lasts f (prints text why) here put = put_lasts f text why here put
 out_lasts f (says line) here put = put
+out_lasts f (notes line) here put = put
 out_lasts f (shows error why) here put = tt
 
-err_lasts : {F G : ErrorKind → Type 0} → Lasts F G → (e : Event) (here : Bytes) → PutsErr F e here → PutsErr G e here
-err_lasts f (reads path got) here put = put
-err_lasts f (lacks path) here put = put
-err_lasts f (compares one other same) here put = put
-err_lasts f (asks path plain) here put = put
-err_lasts f (writes path text why) here put = put
-err_lasts f (replaces path text why) here put = put
-err_lasts f (leaves path) here put = put
-err_lasts f (prints text why) here put = put
-err_lasts f (says line) here put = line_lasts f line here put
-err_lasts f (shows error why) here put = tt
+note_lasts : {F G : ErrorKind → Type 0} → Lasts F G → {S T : Bool → Type 0} → ((is : Bool) → S is → T is) → (line here : Bytes)
+    → IsNote F S line here → IsNote G T line here
+note_lasts f tells line here (inl (told, noted)) = inl (tells true told, line_lasts f line here noted)
+note_lasts f tells line here (inr (told, none)) = inr (tells false told, none)
+
+err_lasts : {F G : ErrorKind → Type 0} → Lasts F G → {S T : Bool → Type 0} → ((is : Bool) → S is → T is) → (e : Event) (here : Bytes)
+    → PutsErr F S e here → PutsErr G T e here
+err_lasts f tells (reads path got) here put = put
+err_lasts f tells (lacks path) here put = put
+err_lasts f tells (compares one other same) here put = put
+err_lasts f tells (asks path plain) here put = put
+err_lasts f tells (writes path text why) here put = put
+err_lasts f tells (replaces path text why) here put = put
+err_lasts f tells (leaves path) here put = put
+err_lasts f tells (prints text why) here put = put
+err_lasts f tells (says line) here put = line_lasts f line here put
+err_lasts f tells (notes line) here put = note_lasts f tells line here put
+err_lasts f tells (shows error why) here put = tt
 
 -- ---- all of it
 
@@ -116,6 +124,7 @@ telling o holds out out_failed err err_failed = record {
   out_failed = out_failed;
   err = err;
   err_failed = err_failed;
+  tells_terminal = o.tells_terminal;
 }
 
 -- what is outside goes on: what is known of files stays, and what failed has failed
@@ -128,6 +137,7 @@ pub record GoesOn (old new : Outside) : Type 0 where
   pub input_refuses : (kind : ErrorKind) → old.input_refuses kind → new.input_refuses kind
   pub out_failed : Lasts old.out_failed new.out_failed
   pub err_failed : Lasts old.err_failed new.err_failed
+  pub tells_terminal : (is : Bool) → old.tells_terminal is → new.tells_terminal is
 
 held_lasts : (old new : Outside) → GoesOn old new → (e : Event) → IsHeld old e → IsHeld new e
 held_lasts old new on (reads (Some path) (Ok text)) held =
@@ -145,6 +155,7 @@ held_lasts old new on (replaces path text why) held = tt
 held_lasts old new on (leaves path) held = tt
 held_lasts old new on (prints text why) held = tt
 held_lasts old new on (says line) held = tt
+held_lasts old new on (notes line) held = tt
 held_lasts old new on (shows error why) held = tt
 
 held_behind : (old new : Outside) → GoesOn old new → (front : List Event) (e : Event) → AreHeld old front → IsHeld new e
@@ -153,13 +164,15 @@ held_behind old new on [] e held more = (more, tt)
 held_behind old new on (f ∷ front) e held more = (held_lasts old new on f held.0, held_behind old new on front e held.1 more)
 
 adds_one : (old new : Outside) (e : Event) → GoesOn old new → IsHeld new e → Grows (PutsOut new.out_failed) old.out new.out e
-    → Grows (PutsErr new.err_failed) old.err new.err e → Adds (AreDone old) (AreDone new) (e ∷ [])
+    → Grows (PutsErr new.err_failed new.tells_terminal) old.err new.err e → Adds (AreDone old) (AreDone new) (e ∷ [])
 adds_one old new e on held out err = record {
   behind = λ front before. record {
     held = held_behind old new on front e before.held held;
     printed = on_behind (PutsOut old.out_failed) (PutsOut new.out_failed) (out_lasts on.out_failed) old.out new.out front e before.printed
         out;
-    said = on_behind (PutsErr old.err_failed) (PutsErr new.err_failed) (err_lasts on.err_failed) old.err new.err front e before.said err;
+    said =
+        on_behind (PutsErr old.err_failed old.tells_terminal) (PutsErr new.err_failed new.tells_terminal)
+        (err_lasts on.err_failed on.tells_terminal) old.err new.err front e before.said err;
   };
 }
 
@@ -176,16 +189,18 @@ goes_on o holds out out_failed err err_failed same outs errs = record {
   input_refuses = λ kind r. r;
   out_failed = outs;
   err_failed = errs;
+  tells_terminal = λ is t. t;
 }
 
 stays : (o : Outside) → GoesOn o o
 stays o = goes_on o o.holds o.out o.out_failed o.err o.err_failed refl (λ kind f. f) (λ kind f. f)
 
 -- something that puts nothing on either stream
-adds_none : (o : Outside) (e : Event) → IsHeld o e → PutsOut o.out_failed e [] → PutsErr o.err_failed e []
+adds_none : (o : Outside) (e : Event) → IsHeld o e → PutsOut o.out_failed e [] → PutsErr o.err_failed o.tells_terminal e []
     → Adds (AreDone o) (AreDone o) (e ∷ [])
 adds_none o e held out err =
-    adds_one o o e (stays o) held (grows_none (PutsOut o.out_failed) o.out e out) (grows_none (PutsErr o.err_failed) o.err e err)
+    adds_one o o e (stays o) held (grows_none (PutsOut o.out_failed) o.out e out)
+    (grows_none (PutsErr o.err_failed o.tells_terminal) o.err e err)
 
 -- it is asked whether two paths lead to one file, which are equal, or of which the system tells it
 pub adds_compare : (o : Outside) (one other : Bytes) (same : Bool) → ((one ≡ other) × (same ≡ true)) ⊎ o.tells_one one other same
@@ -219,10 +234,10 @@ abbrev pub behind_deeds : Outside → (Bytes → Option Bytes) → Outside
 behind_deeds o now = telling o now o.out o.out_failed o.err o.err_failed
 
 adds_deed : (o : Outside) (now : Bytes → Option Bytes) (e : Event) → now ≡ o.holds → IsHeld (behind_deeds o now) e
-    → PutsOut o.out_failed e [] → PutsErr o.err_failed e [] → Adds (AreDone o) (AreDone (behind_deeds o now)) (e ∷ [])
+    → PutsOut o.out_failed e [] → PutsErr o.err_failed o.tells_terminal e [] → Adds (AreDone o) (AreDone (behind_deeds o now)) (e ∷ [])
 adds_deed o now e kept held out err =
     adds_one o (behind_deeds o now) e (goes_on o now o.out o.out_failed o.err o.err_failed kept (λ kind f. f) (λ kind f. f)) held
-    (grows_none (PutsOut o.out_failed) o.out e out) (grows_none (PutsErr o.err_failed) o.err e err)
+    (grows_none (PutsOut o.out_failed) o.out e out) (grows_none (PutsErr o.err_failed o.tells_terminal) o.err e err)
 
 -- and a new file may be left
 adds_left : (a b : List Event → Type 0) (o : Outside) (e : Event) (left : Option Bytes) → b ≡ AreDone o → Adds a b (e ∷ [])
@@ -290,6 +305,20 @@ adds_line o out out_failed err err_failed line how put lasts other =
     adds_one o (behind_put o out out_failed err err_failed) (says line)
     (goes_on o o.holds out out_failed err err_failed refl other.lasts lasts) tt
     (λ own. ([], refl, same_appends o.out out other.same)) (λ own. line_appended err_failed o.err err line how put)
+
+-- a line that is noted is said where that is a terminal, and nothing is where it is none
+pub adds_note : (o : Outside) (out : Option Bytes) (out_failed : ErrorKind → Type 0) (err : Option Bytes) (err_failed : ErrorKind → Type 0)
+    (line : Bytes) (how : Failure) → o.tells_terminal true → IsAppended err_failed o.err err (line ++ codes "\n") how
+    → Lasts o.err_failed err_failed → Stays o.out_failed out_failed o.out out
+    → Adds (AreDone o) (AreDone (behind_put o out out_failed err err_failed)) (notes line ∷ [])
+adds_note o out out_failed err err_failed line how told put lasts other =
+    adds_one o (behind_put o out out_failed err err_failed) (notes line)
+    (goes_on o o.holds out out_failed err err_failed refl other.lasts lasts) tt
+    (λ own. ([], refl, same_appends o.out out other.same))
+    (λ own. let (here, said, appends) = line_appended err_failed o.err err line how put in (here, inl (told, said), appends))
+
+pub adds_no_note : (o : Outside) (line : Bytes) → o.tells_terminal false → Adds (AreDone o) (AreDone o) (notes line ∷ [])
+adds_no_note o line told = adds_none o (notes line) tt refl (inr (told, refl))
 
 -- the parser is shown
 pub adds_shown : (o : Outside) (out : Option Bytes) (out_failed : ErrorKind → Type 0) (err : Option Bytes) (err_failed : ErrorKind → Type 0)

@@ -1,11 +1,11 @@
 -- How far it goes with a new file beside another: what deeds on it leave as it is.
-use Rattle.std.proofs.Common.{◌≡◌, ◌≢◌, ◌∙◌, ◌++◌, ◌∷◌, [], Bool, true, false, List, Option, Some, None, Result, Ok, Err, ap, append_assoc, append-nil, refl, subst, sym, inl, inr, bytes_eq, if◌then◌else◌, ℕ, length, arith, ◌+◌, suc}
+use Rattle.std.proofs.Common.{◌≡◌, ◌≢◌, ◌∙◌, ◌++◌, ◌∷◌, [], true, List, Option, Some, None, Result, Ok, Err, ap, append_assoc, append-nil, refl, subst, sym, inl, inr, bytes_eq, if◌then◌else◌, ℕ, length, arith, ◌+◌, suc}
 use Rattle.std.proofs.lemmas.Slice.Eq.{bytes_eq-Decides}
 use Rattle.std.proofs.lemmas.List.{length-append}
 use Rattle.std.specs.Prelude.{is_some, option_map, string_bytes}
 use Rattle.outside.specs.Events.{Bytes, left_of}
 use Rattle.outside.specs.Deeds.{Deed, Does, Each, IsGivenUp, IsMovedOver, IsTaken, OneFails, Spares, Failure, IsReasonOf, all_left, cuts, failure_in, fills, left_by, listed, makes, moves, permissions_of, permits, removes, syncs, without}
-use Rattle.outside.specs.Troubles.{IsAnsweredBy, IsTroubleOf}
+use Rattle.outside.specs.Troubles.{IsTroubleOf}
 use Rattle.std.specs.declared.io.ErrorKind.{ErrorKind}
 use Rattle.std.specs.declared.io.ErrorKind.TheVariants.{AlreadyExists, PermissionDenied}
 use Rattle.outside.specs.declared.trouble.Trouble.{Trouble}

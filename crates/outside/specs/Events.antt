@@ -16,7 +16,8 @@ Bytes = List ℕ
 -- read; there is no memory for what it has; it asks whether two paths lead to one file, or whether one leads to a plain file, and is told;
 -- it writes a text to the file at a path, or can't, for a trouble; it puts a text in place of what the file at a path has, or can't, and
 -- then that has what it had; a new file, which it made for that at a path, stays there; it prints a text on the standard output, or can't,
--- for a reason; it says a line on the standard error; it shows what the parser of command lines says, on the stream of that, or can't
+-- for a reason; it says a line on the standard error; it notes one there, if that is a terminal; it shows what the parser of command lines
+-- says, on the stream of that, or can't
 pub data Event : Type 0 where
   reads : Option Bytes → Result Bytes Reason → Event
   lacks : Option Bytes → Event
@@ -27,6 +28,7 @@ pub data Event : Type 0 where
   leaves : Bytes → Event
   prints : Bytes → Option Reason → Event
   says : Bytes → Event
+  notes : Bytes → Event
   shows : Error → Option Reason → Event
 
 -- these were done behind what was done before: where it told of a front that it was done, it tells so of the front with these behind it
@@ -61,7 +63,7 @@ abbrev pub reason_in : {A : Type 0} → Result A Reason → Option Reason
 reason_in (Ok done) = None
 reason_in (Err why) = Some why
 
--- nothing was written, printed or said: something was read or asked
+-- nothing was written, printed, said or noted: something was read or asked
 abbrev pub IsQuiet : Event → Type 0
 IsQuiet (reads path got) = Unit {0}
 IsQuiet (lacks path) = Unit {0}
@@ -72,4 +74,5 @@ IsQuiet (replaces path text why) = ⊥
 IsQuiet (leaves path) = ⊥
 IsQuiet (prints text why) = ⊥
 IsQuiet (says line) = ⊥
+IsQuiet (notes line) = ⊥
 IsQuiet (shows error why) = ⊥

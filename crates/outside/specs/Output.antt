@@ -1,9 +1,9 @@
 -- What was read, and what stands on the standard output and error, where a program did these things.
-use Rattle.std.specs.Prelude.{◌≡◌, ◌⊎◌, ℕ, Bool, true, List, [], ◌∷◌, ◌++◌, Option, Some, None, Ok, Err, IfSome, take, codes}
+use Rattle.std.specs.Prelude.{◌≡◌, ◌⊎◌, ℕ, Bool, true, false, List, [], ◌∷◌, ◌++◌, Option, Some, None, Ok, Err, IfSome, take, codes}
 use Rattle.std.specs.declared.io.ErrorKind.{ErrorKind}
 use Rattle.outside.specs.declared.reason.Reason.{Reason}
 use Rattle.outside.specs.declared.trouble.Trouble.TheVariants as trouble
-use Rattle.outside.specs.Events.{Bytes, Event, reads, lacks, compares, asks, writes, replaces, leaves, prints, says, shows}
+use Rattle.outside.specs.Events.{Bytes, Event, reads, lacks, compares, asks, writes, replaces, leaves, notes, prints, says, shows}
 use Rattle.outside.specs.Reasons.{reason_by}
 use Rattle.outside.specs.Troubles.{IsAnsweredBy}
 use Rattle.outside.specs.declared.whole.TheConstants.{MOST_READ}
@@ -27,6 +27,7 @@ PutsOut failed (replaces path text why) here = here ≡ []
 PutsOut failed (leaves path) here = here ≡ []
 PutsOut failed (prints text why) here = IsPut failed text why here
 PutsOut failed (says line) here = here ≡ []
+PutsOut failed (notes line) here = here ≡ []
 PutsOut failed (shows error why) here = Unit {0}
 
 -- ---- on the standard error
@@ -36,17 +37,22 @@ abbrev pub IsLine : (ErrorKind → Type 0) → Bytes → Bytes → Type 0
 IsLine failed line here =
     (here ≡ line ++ codes "\n") ⊎ ((kind : ErrorKind) × failed kind × (many : ℕ) × (here ≡ take many (line ++ codes "\n")))
 
-abbrev pub PutsErr : (ErrorKind → Type 0) → Event → Bytes → Type 0
-PutsErr failed (reads path got) here = here ≡ []
-PutsErr failed (lacks path) here = here ≡ []
-PutsErr failed (compares one other same) here = here ≡ []
-PutsErr failed (asks path plain) here = here ≡ []
-PutsErr failed (writes path text why) here = here ≡ []
-PutsErr failed (replaces path text why) here = here ≡ []
-PutsErr failed (leaves path) here = here ≡ []
-PutsErr failed (prints text why) here = here ≡ []
-PutsErr failed (says line) here = IsLine failed line here
-PutsErr failed (shows error why) here = Unit {0}
+-- such a line where the stream is a terminal, as that tells, and nothing where it is none
+abbrev pub IsNote : (ErrorKind → Type 0) → (Bool → Type 0) → Bytes → Bytes → Type 0
+IsNote failed tells_terminal line here = (tells_terminal true × IsLine failed line here) ⊎ (tells_terminal false × (here ≡ []))
+
+abbrev pub PutsErr : (ErrorKind → Type 0) → (Bool → Type 0) → Event → Bytes → Type 0
+PutsErr failed tells_terminal (reads path got) here = here ≡ []
+PutsErr failed tells_terminal (lacks path) here = here ≡ []
+PutsErr failed tells_terminal (compares one other same) here = here ≡ []
+PutsErr failed tells_terminal (asks path plain) here = here ≡ []
+PutsErr failed tells_terminal (writes path text why) here = here ≡ []
+PutsErr failed tells_terminal (replaces path text why) here = here ≡ []
+PutsErr failed tells_terminal (leaves path) here = here ≡ []
+PutsErr failed tells_terminal (prints text why) here = here ≡ []
+PutsErr failed tells_terminal (says line) here = IsLine failed line here
+PutsErr failed tells_terminal (notes line) here = IsNote failed tells_terminal line here
+PutsErr failed tells_terminal (shows error why) here = Unit {0}
 
 -- ---- on either
 
@@ -66,6 +72,7 @@ IsOwn (replaces path text why) = Unit {0}
 IsOwn (leaves path) = Unit {0}
 IsOwn (prints text why) = Unit {0}
 IsOwn (says line) = Unit {0}
+IsOwn (notes line) = Unit {0}
 IsOwn (shows error why) = ⊥
 
 abbrev pub AreOwn : List Event → Type 0
@@ -80,7 +87,7 @@ IsOn puts known es = AreOwn es → (held : Bytes) × (known ≡ Some held) × St
 
 -- what the files and the streams tell: what is known of files, which of them the system refuses, by which kind of error, what it answers on
 -- two paths, and on one, what the standard input has, where that is known, and by which kind of error it is refused, what stands on either
--- stream, and by which kind of error a write on it failed
+-- stream, and by which kind of error a write on it failed; and whether the standard error is a terminal
 pub record Outside : Type 1 where
   pub holds : Bytes → Option Bytes
   pub refuses : Bytes → ErrorKind → Type 0
@@ -92,6 +99,7 @@ pub record Outside : Type 1 where
   pub out_failed : ErrorKind → Type 0
   pub err : Option Bytes
   pub err_failed : ErrorKind → Type 0
+  pub tells_terminal : Bool → Type 0
 
 -- a text that was read is all that its file holds, up to one byte more than any text may have, where that is known; a file that wasn't read
 -- is one that the system refuses, for that reason; so it is with the standard input; two paths lead to one file where they are equal, or
@@ -109,6 +117,7 @@ IsHeld o (replaces path text why) = Unit {0}
 IsHeld o (leaves path) = Unit {0}
 IsHeld o (prints text why) = Unit {0}
 IsHeld o (says line) = Unit {0}
+IsHeld o (notes line) = Unit {0}
 IsHeld o (shows error why) = Unit {0}
 
 abbrev pub AreHeld : Outside → List Event → Type 0
@@ -119,4 +128,4 @@ AreHeld o (e ∷ es) = IsHeld o e × AreHeld o es
 pub record AreDone (o : Outside) (es : List Event) : Type 0 where
   pub held : AreHeld o es
   pub printed : IsOn (PutsOut o.out_failed) o.out es
-  pub said : IsOn (PutsErr o.err_failed) o.err es
+  pub said : IsOn (PutsErr o.err_failed o.tells_terminal) o.err es

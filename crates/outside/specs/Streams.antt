@@ -1,5 +1,5 @@
 -- What is put on a stream.
-use Rattle.std.specs.Prelude.{◌≡◌, ℕ, List, Option, Some, None, take}
+use Rattle.std.specs.Prelude.{◌≡◌, ℕ, Option, Some, None, take}
 use Rattle.std.specs.Io.KnownBytes.{Appends}
 use Rattle.std.specs.declared.io.ErrorKind.{ErrorKind}
 use Rattle.outside.specs.Events.{Bytes}

@@ -37,6 +37,7 @@ impl<D: Disk + Drop, S: Streams + Drop> World for Host<D, S> {
       out_failed = S.out_failed h.streams;
       err = S.err h.streams;
       err_failed = S.err_failed h.streams;
+      tells_terminal = S.tells_terminal;
     }) es };
 
     fn read(&mut self, alloc: Global, path: Option<&str>) -> Result<Vec<u8>, Trouble> {
@@ -66,6 +67,7 @@ impl<D: Disk + Drop, S: Streams + Drop> World for Host<D, S> {
           out_failed = S.out_failed self.old.streams;
           err = S.err self.old.streams;
           err_failed = S.err_failed self.old.streams;
+          tells_terminal = S.tells_terminal;
         }))
             (AreDone (record {
               holds = D.holds self.new.disk;
@@ -78,6 +80,7 @@ impl<D: Disk + Drop, S: Streams + Drop> World for Host<D, S> {
               out_failed = S.out_failed self.new.streams;
               err = S.err self.new.streams;
               err_failed = S.err_failed self.new.streams;
+              tells_terminal = S.tells_terminal;
             }))
             (writes path.now text.now (trouble_in result) ∷ leaving (path_left result)) }
         ensures written { (ds : List Deed) × Turns (record {
@@ -121,6 +124,7 @@ impl<D: Disk + Drop, S: Streams + Drop> World for Host<D, S> {
           out_failed = S.out_failed self.old.streams;
           err = S.err self.old.streams;
           err_failed = S.err_failed self.old.streams;
+          tells_terminal = S.tells_terminal;
         }))
             (AreDone (record {
               holds = D.holds self.new.disk;
@@ -133,6 +137,7 @@ impl<D: Disk + Drop, S: Streams + Drop> World for Host<D, S> {
               out_failed = S.out_failed self.new.streams;
               err = S.err self.new.streams;
               err_failed = S.err_failed self.new.streams;
+              tells_terminal = S.tells_terminal;
             }))
             (replaces path.now text.now (trouble_in result) ∷ leaving (path_left result)) }
         ensures replaced { (ds : List Deed) × Turns (record {
@@ -169,6 +174,12 @@ impl<D: Disk + Drop, S: Streams + Drop> World for Host<D, S> {
 
     fn say_of(&mut self, path: &str, line: &str) {
         let _ = self.streams.say_of(path, line);
+    }
+
+    fn note(&mut self, line: &str) {
+        if self.streams.is_terminal() {
+            let _ = self.streams.say(line);
+        }
     }
 
     fn show(&mut self, error: &clap::Error) -> Result<(), Reason> {

@@ -4,7 +4,7 @@ use std::io;
 
 /// The standard input, output and error: what they have and hold, where that is known, contracts see.
 pub trait Streams {
-    ghost use Rattle.std.specs.Prelude.{◌≡◌, ◌++◌, [], ℕ, List, Option, None, IfErr, IfSome, OnOk, codes, take};
+    ghost use Rattle.std.specs.Prelude.{◌≡◌, ◌++◌, [], ℕ, Bool, List, Option, None, IfErr, IfSome, OnOk, codes, take};
     ghost use Rattle.std.specs.IoError.{error_kind};
     ghost use Rattle.std.specs.declared.io.ErrorKind.{ErrorKind};
     ghost use Rattle.outside.specs.Deeds.{failure_of};
@@ -27,6 +27,13 @@ pub trait Streams {
 
     /// Whether a write on the standard error failed, by an error of this kind, as far as that is known.
     ghost err_failed: { Self → ErrorKind → Type 0 } = { λ _ _. Unit {0} };
+
+    /// Whether the standard error is a terminal, or isn't, as far as that is known.
+    ghost tells_terminal: { Bool → Type 0 } = { λ _. Unit {0} };
+
+    /// Whether the standard error is a terminal.
+    fn is_terminal(&self) -> bool
+        ensures { tells_terminal result };
 
     /// Reads what the standard input has, up to so many bytes, behind a text that is empty.
     ///

@@ -120,9 +120,15 @@ impl<F: Files> Disk for SystemFiles<'_, F> {
 pub struct SystemStreams<'r, R> {
     /// The runtime that has them.
     pub rt: &'r R,
+    /// Whether the standard error is a terminal.
+    pub is_terminal: bool,
 }
 
 impl<R: Input + Print + Eprint> Streams for SystemStreams<'_, R> {
+    fn is_terminal(&self) -> bool {
+        self.is_terminal
+    }
+
     fn read_input(&self, most: u64, text: &mut Vec<u8>) -> io::Result<()> {
         self.rt.reader().take(most).read_to_end(text)?;
         Ok(())

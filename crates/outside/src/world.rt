@@ -7,7 +7,7 @@ use std::alloc::Global;
 /// What the program does on the outside. Contracts see all that was done, in order.
 pub trait World {
     ghost use Rattle.std.specs.Prelude.{◌≡◌, ◌++◌, ◌∷◌, [], List, codes, option_map, true};
-    ghost use Rattle.outside.specs.Events.{Event, Adds, reading_of, trouble_in, path_left, leaving, reason_in, compares, asks, writes, replaces, prints, says, shows};
+    ghost use Rattle.outside.specs.Events.{Event, Adds, reading_of, trouble_in, path_left, leaving, reason_in, compares, asks, writes, replaces, prints, says, notes, shows};
 
     /// Whether just this was done so far, as far as what lies outside tells.
     ghost done: { Self → List Event → Type 0 };
@@ -61,6 +61,10 @@ pub trait World {
     /// Says a line of the file at a path on the standard error, behind the path and a colon, if that takes it.
     fn say_of(&mut self, path: &str, line: &str)
         ensures { Adds (done self.old) (done self.new) (says (path.now ++ (codes ": " ++ line.now)) ∷ []) };
+
+    /// Notes a line on the standard error where that is a terminal, if it takes it, and nowhere else.
+    fn note(&mut self, line: &str)
+        ensures { Adds (done self.old) (done self.new) (notes line.now ∷ []) };
 
     /// Shows what the parser of command lines says, help and the version on the standard output, all else on the standard error.
     ///

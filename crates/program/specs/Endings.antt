@@ -1,6 +1,6 @@
 -- What an edit tells at its end, and where its texts go.
 use Rattle.std.specs.Prelude.{◌≡◌, ◌⊎◌, ℕ, Bool, true, false, List, [], ◌∷◌, ◌++◌, Option, Some, None, Result, Ok, Err, codes}
-use Rattle.std.specs.Prelude.{String, is_ok, map, string_bytes}
+use Rattle.std.specs.Prelude.{String, is_ok, length, map, string_bytes}
 use Rattle.std.specs.Option.{option_map}
 use Rattle.std.specs.declared.alloc.Global.{Global}
 use Rattle.std.specs.Str.Pattern.{FindsText, SplitsAroundMatch}
@@ -19,6 +19,7 @@ use Rattle.outside.specs.declared.reason.Reason.{Reason}
 use Rattle.outside.specs.declared.trouble.Trouble.{Trouble}
 use Rattle.outside.specs.Events.{Bytes, Event, prints, replaces, says, writes}
 use Rattle.outside.specs.Reasons.{unread_text}
+use Rattle.program.specs.Summaries.{IsNotedIf}
 use Rattle.program.specs.declared.ending.NotDone.{NotDone}
 use Rattle.program.specs.declared.ending.NotDone.TheVariants as not_done
 use Rattle.replylines.specs.ReplyLines.{not_done_line}
@@ -132,13 +133,15 @@ IsCut line said reason =
 -- ---- each answer
 
 -- it is said which transactions weren't done, and of which labels that are gone a comment speaks; then the source with the edits goes where
--- it is to go, and then what became of each transaction
+-- it is to go, which is noted where it is there, and then what became of each transaction
 pub record IsPrintedTold (o : Outputs) (source out : Bytes) (account : Account) (es : List Event) (status : ℕ) : Type 0 where
   pub put : List Event
+  pub noted : List Event
   pub rest : List Event
-  pub each : es ≡ all_said account.undone.items ++ (all_said account.spoken.items ++ (put ++ rest))
+  pub each : es ≡ all_said account.undone.items ++ (all_said account.spoken.items ++ (put ++ (noted ++ rest)))
   pub written : Result Unit ℕ
   pub is_put : IsPutAt o.place source out put written
+  pub is_noted : IsNotedIf (is_ok written) o.place source (length out) account noted
   pub well : Bool
   pub replied : ArePutReplies (replies_path o) account.replies (is_ok written) rest well
   pub ends : status ≡ status_if written well (undone_status account.undone.items)

@@ -1,3 +1,4 @@
+pub mod Summaries
 pub mod Endings
 pub mod Edits
 pub mod Obeying

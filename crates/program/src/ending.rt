@@ -7,6 +7,7 @@ ghost use Rattle.program.specs.Endings.{all_said, undone_status, status_if, put_
 ghost use Rattle.program.specs.Endings.{IsPutNotDone, IsNotDoneTold, said_of, reason_of, line_of, IsCut};
 ghost use Rattle.program.specs.Endings.{IsPrintedTold, IsUndoneTold, IsUnfinishedTold, IsEditTold};
 
+use crate::summary::note_if;
 use commandline::{Destination, Outputs};
 use conduct::{Manner, tell_unprinted, tell_unwritten};
 use editscripts::Replies;
@@ -239,7 +240,8 @@ pub(crate) fn tell_not_done<W: World>(
     1
 }
 
-/// Tells which transactions weren't done, puts the edited source where it goes, and then what became of each transaction.
+/// Tells which transactions weren't done, puts the edited source where it goes, notes what was done, and then puts what became of each
+/// transaction where that goes.
 fn tell_printed<W: World>(
     world: &mut W,
     alloc: Global,
@@ -255,8 +257,10 @@ fn tell_printed<W: World>(
     say_all(world, undone);
     say_all(world, account.spoken.as_slice());
     let written = put_at(world, alloc, outputs.place, source, out);
+    let (place, is_written) = (outputs.place, written.is_ok());
+    note_if(world, alloc, is_written, place, source, out.len(), account);
     let replies = account.replies.as_ref();
-    let well = put_replies(world, alloc, outputs.replies, replies, written.is_ok());
+    let well = put_replies(world, alloc, outputs.replies, replies, is_written);
     status_if(written, well, undone_status(undone))
 }
 

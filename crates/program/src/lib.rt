@@ -6,6 +6,7 @@ mod edit;
 mod ending;
 mod obeying;
 mod running;
+mod summary;
 
 pub use jobs::{Gate, Job, perform};
 pub use obeying::obey;

@@ -41,7 +41,7 @@ fn unread_line(trouble: Trouble) -> &'static str
 /// or a front of it where a write failed; unless the parser's text was shown, of which nothing is known. Each text that was read is all
 /// that its file holds, or the standard input has, up to one byte more than any text may have, where that is known; a file that wasn't read
 /// the system refused, for the reason that is told; and it told whether two paths lead to one file, and whether a path leads to a plain
-/// one.
+/// one. A line that is noted stands on the standard error where that is a terminal, and nowhere else.
 pub fn run_on<
     R: Threads + Wait + Sync,
     D: Disk + Drop,
@@ -61,6 +61,7 @@ pub fn run_on<
           out_failed = S.out_failed host.new.streams;
           err = S.err host.new.streams;
           err_failed = S.err_failed host.new.streams;
+          tells_terminal = S.tells_terminal;
         }) es)
         × (words : Result (List Text) TroubleOfWords) × A.tells arguments.now words × IsRun (is_some keys) words es result }
 {
@@ -71,7 +72,7 @@ pub fn run_on<
 }
 
 /// Does what the command line asks for, on the files and streams of the system, and answers the status that the program ends with. Where
-/// the standard error is a terminal, a line there says how far a run is. It may wait.
+/// the standard error is a terminal, a line there says how far a run is, and what an edit did at its end. It may wait.
 ///
 /// It is `run_on` over the system's parts. These tell nothing, so its clause only says that there are words which it obeys.
 pub fn run<R>(rt: &R, is_terminal: bool) -> u8
@@ -101,7 +102,7 @@ where
 {
     let mut host = Host {
         disk: SystemFiles { files },
-        streams: SystemStreams { rt },
+        streams: SystemStreams { rt, is_terminal },
     };
     let progress = Progress::new(rt, is_terminal);
     let keys = RandomState::new(rt).ok();

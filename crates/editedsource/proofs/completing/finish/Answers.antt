@@ -4,7 +4,7 @@ use Rattle.std.specs.Prelude.{OnOk, IfOk, IfErr}
 use Rattle.std.specs.Option.{option_map, unwrap_or}
 use Rattle.std.proofs.lemmas.Result.{err_from_is_err_and}
 use Rattle.source.specs.Sources.{DeclaresText}
-use Rattle.source.specs.Views.{seen_pairs}
+use Rattle.source.specs.Views.{seen_pairs, seen_words}
 use Rattle.checking.specs.Checks.{Bytes}
 use Rattle.commentwords.specs.Spoken.{spoken_in}
 use Rattle.givetext.specs.Drafts.{IsDraft}
@@ -15,6 +15,8 @@ use Rattle.sourceediting.specs.Views.{seen_following}
 use Rattle.verifytext.specs.Verdicts.{IsVerifiedText}
 use Rattle.dressing.specs.Dressed.{IsDressed}
 use Rattle.editscripts.specs.Refusals.{IsToldBy}
+use Rattle.mentions.specs.Lines.{mention_lines}
+use Rattle.mentions.specs.Vanished.{vanished}
 use Rattle.editedsource.specs.Gone.{lost, spoken_line}
 use Rattle.editedsource.specs.Refusals.{IsFaultyThenLine, IsStoppedLine, IsStoppedOrFaulty}
 use Rattle.editedsource.proofs.Unwrapped.{lent, unwrapped}
@@ -71,6 +73,12 @@ returns-clause-finished g c choice are =
           c.in_ok-spoken.ensures
           ∙ ap (λ (bytes : Bytes). map (spoken_line path bytes) (spoken_in (lost f) bytes)) c.as_slice.ensures.value
           ∙ ap (λ (f : Following). map (spoken_line path out) (spoken_in (lost f) out)) same;
+      mentions =
+          c.in_ok-mentions.ensures
+          ∙ ap (λ (bytes : Bytes). mention_lines bytes (seen_words c.as_slice-2.result.now)) c.as_slice-3.ensures.value
+          ∙ ap (λ ws. mention_lines out (seen_words ws)) c.as_slice-2.ensures.value
+          ∙ ap (mention_lines out) c.in_ok-vanished.ensures
+          ∙ ap (λ (f : Following). mention_lines out (vanished old f)) same;
     }
 
 pub returns-in_err-new-clause-refused : goal.returns-in_err-new-clause-refused

@@ -121,7 +121,8 @@ returns-then-not-may_print-clause-told g c =
       lists_of e.outcomes.items,
       run_of source texts s c.args.order.force begun d is db ss over same workers room e c.in_ok-outcomes.ensures.done,
       accounted source texts s c.args.order.force begun d is db ss over same paths workers room e c.in_ok-outcomes.ensures.done asked
-          account first account.spoken [] (ap (map string_bytes) first.none_spoken),
+          account first account.spoken account.mentions [] [] (ap (map string_bytes) first.none_spoken)
+          (ap (map string_bytes) first.none_mentioned),
       λ none. undone.0 (c.as_slice.ensures.value ∙ none),
       undone.1,
       is.allowed,
@@ -200,7 +201,8 @@ returns-clause-told g c =
         much = finished.much;
         verifies = finished.verifies;
       },
-      accounted source texts s force begun d is db ss over whole paths workers room e worked asked account first f.spoken _ finished.spoken,
+      accounted source texts s force begun d is db ss over whole paths workers room e worked asked account first f.spoken f.mentions _ _
+          finished.spoken finished.mentions,
       λ all. sym c.as_slice.ensures.value ∙ c.if-not-may_print.ensures.whole refl all,
       is.allowed,
     )))
@@ -208,8 +210,8 @@ returns-clause-told g c =
     (λ line stopped. (
       rows,
       run,
-      accounted source texts s force begun d is db ss over whole paths workers room e worked asked account first account.spoken []
-          (ap (map string_bytes) first.none_spoken),
+      accounted source texts s force begun d is db ss over whole paths workers room e worked asked account first account.spoken
+          account.mentions [] [] (ap (map string_bytes) first.none_spoken) (ap (map string_bytes) first.none_mentioned),
       λ all. sym c.as_slice.ensures.value ∙ c.if-not-may_print.ensures.whole refl all,
       is.allowed,
       elim stopped [

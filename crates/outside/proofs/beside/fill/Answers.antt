@@ -1,4 +1,4 @@
-use Rattle.std.proofs.Common.{◌∷◌, [], None, Some, inl, inr, refl}
+use Rattle.std.proofs.Common.{◌∷◌, [], None, Some, inr, refl}
 use Rattle.std.specs.IoError.{error_kind}
 use Rattle.outside.specs.Deeds.{fills, syncs}
 use Rattle.outside.proofs.Trying.{begun_fills, begun_more, begun_syncs, does_more, one_fails}

@@ -1,4 +1,4 @@
-use Rattle.std.proofs.Common.{None, Some, ap, refl, subst, sym}
+use Rattle.std.proofs.Common.{None, Some}
 use Rattle.std.specs.IoError.{error_kind}
 use Rattle.outside.proofs.Standing.{adds_print}
 use Rattle.outside.proofs.host.HostWorld.print.Goals as goal

@@ -1,0 +1,3 @@
+pub mod Vanished
+pub mod Mentioned
+pub mod Lines
