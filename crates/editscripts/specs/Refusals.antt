@@ -8,11 +8,12 @@ use Rattle.source.specs.Scopes.{Assertion, Scope}
 use Rattle.checking.specs.Checks.{Bytes, Orders, AreScripts}
 use Rattle.checking.specs.FaultLines.{shown_label}
 use Rattle.scripts.specs.ScriptFaults.{FaultyScript}
-use Rattle.expanding.specs.declared.misfit.Misfit.{Misfit}
-use Rattle.expanding.specs.declared.misfit.Misfit.TheVariants as misfit
+use Rattle.spreading.specs.declared.misfit.Misfit.{Misfit}
+use Rattle.spreading.specs.declared.misfit.Misfit.TheVariants as misfit
 use Rattle.locating.specs.Told.{told_at, spot_at, text_line}
-use Rattle.expanding.specs.Words.{word_language, text_of, place_at}
-use Rattle.expanding.specs.Refusals.{IsUnspread, IsUnranked}
+use Rattle.spreading.specs.Words.{word_language, text_of, place_at}
+use Rattle.expanding.specs.Refusals.{IsUnranked}
+use Rattle.spreading.specs.Refusals.{IsUnspread}
 use Rattle.expanding.specs.Barred.{IsBarred}
 use Rattle.mmsyntax.specs.Tables.{Tables, Contents}
 use Rattle.taking.specs.Names.{Map}

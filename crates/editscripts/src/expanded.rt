@@ -15,13 +15,14 @@ ghost use Rattle.editscripts.specs.Views.{seen_texts, AreLaid};
 
 use crate::telling::{misfit, path_at, text_at, unpasted, unread};
 use crate::unedited::Unedited;
-use expanding::{Laid, Ranker, spread, words_in};
+use expanding::{Laid, Ranker, words_in};
 use library::Script;
 use mmsyntax::{Database, Prelude};
 use mmtext::{TextFault, Token};
 use pasting::Paster;
 use scripts::read_script;
 use source::Declared;
+use spreading::spread;
 use std::alloc::{AllocError, Global};
 use std::hash::RandomState;
 

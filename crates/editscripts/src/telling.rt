@@ -4,7 +4,7 @@ ghost use Rattle.std.specs.Prelude.{◌≡◌, ◌≢◌, ◌++◌, [], codes, I
 ghost use Rattle.mmtext.specs.declared.fault.FaultKind.TheVariants.{NoMemory as OutOfMemory};
 ghost use Rattle.checking.specs.FaultLines.{line_of};
 ghost use Rattle.checking.specs.declared.fault.Fault.TheVariants.{NoMemory as NoMemoryOfRun};
-ghost use Rattle.expanding.specs.declared.misfit.Misfit.TheVariants.{NoMemory as NoMemoryOfMisfit};
+ghost use Rattle.spreading.specs.declared.misfit.Misfit.TheVariants.{NoMemory as NoMemoryOfMisfit};
 ghost use Rattle.intake.specs.declared.refusal.Refusal.TheVariants.{NoMemory as NoMemoryOfTake};
 ghost use Rattle.locating.specs.Told.{text_line};
 ghost use Rattle.taketext.specs.Refusals.{refusal_line as taking_line};
@@ -18,11 +18,11 @@ ghost use Rattle.editscripts.specs.Refusals.{IsToldBy, IsPasteFaultLine, misfit_
 
 use crate::unedited::Unedited;
 use checking::Fault;
-use expanding::Misfit;
 use locating::{spot_at, text_line, told_at};
 use mmtext::{FaultKind, TextFault};
 use pasting::Unpasted;
 use replylines::shown;
+use spreading::Misfit;
 use std::alloc::{AllocError, Global};
 use taketext::refusal_line as taking_line;
 

@@ -12,9 +12,9 @@ use Rattle.mmtext.specs.Words.{Word}
 use Rattle.mmsyntax.proofs.Names.{bytes_eq-same}
 use Rattle.source.specs.Scopes.{Assertion, Scope, is_in}
 use Rattle.source.proofs.Passing.{three_parts, three_from}
-use Rattle.expanding.specs.Forms.{Part}
+use Rattle.spreading.specs.Forms.{Part}
 use Rattle.expanding.specs.Asking.{asked}
-use Rattle.expanding.specs.Spreading.{assertion_at, cites}
+use Rattle.spreading.specs.Spreading.{assertion_at, cites}
 use Rattle.expanding.specs.Commands.{Command, command_of, AreCommands}
 use Rattle.expanding.specs.Barred.{delete_of, move_of, is_renamed, IsDeletion, IsMoveBehind, IsBarred}
 use Rattle.expanding.specs.Bars.{Bar, bar_of, bar_of_labels, bars_of, is_lost, reach_between, reaches, is_moved_once}

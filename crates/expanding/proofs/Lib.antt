@@ -1,8 +1,4 @@
-pub mod Counted
-pub mod Parted
 pub mod Laying
-pub mod Citing
-pub mod PartByPart
 pub mod Fronts
 pub mod Gaps
 pub mod PartsRanked

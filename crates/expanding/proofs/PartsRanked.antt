@@ -7,14 +7,14 @@ use Rattle.std.proofs.lemmas.List.Elements.{filter_map-append}
 use Rattle.mmtext.specs.Text.{Token}
 use Rattle.mmtext.specs.Views.{seen}
 use Rattle.source.specs.Scopes.{Scope}
-use Rattle.expanding.specs.Forms.{Part, AreParts, words_before_place, beginning_of}
+use Rattle.spreading.specs.Forms.{Part, AreParts, words_before_place, beginning_of}
 use Rattle.expanding.specs.Ranking.{gap_of, gaps_of, ranked, ranked_part, crowded_behind, first_crowded, or_later, IsRanked, IsCrowded}
 use Rattle.expanding.specs.Refusals.{IsUnranked}
 use Rattle.expanding.specs.Views.{IsLaid, IsRanker, IsRankerOf, IsTooMany, with_gap, with_beginning}
 use Rattle.expanding.specs.declared.laid.Laid.{Laid}
 use Rattle.expanding.specs.declared.ranking.Ranker.{Ranker}
-use Rattle.expanding.specs.declared.misfit.Misfit.{Misfit}
-use Rattle.expanding.specs.declared.misfit.Misfit.TheVariants as misfit
+use Rattle.spreading.specs.declared.misfit.Misfit.{Misfit}
+use Rattle.spreading.specs.declared.misfit.Misfit.TheVariants as misfit
 
 -- one more, if there is one
 gaps_more : (E : List ℕ) (o : Option ℕ) → E ++ cons_option o [] ≡ with_gap E o

@@ -7,10 +7,10 @@ use Rattle.std.specs.List.{flat_map}
 use Rattle.mmtext.specs.Text.{Token}
 use Rattle.mmtext.specs.Words.{Word}
 use Rattle.source.specs.Scopes.{Assertion, Scope, is_in}
-use Rattle.expanding.specs.Words.{says}
-use Rattle.expanding.specs.Forms.{Part, begins_with}
+use Rattle.spreading.specs.Words.{says}
+use Rattle.spreading.specs.Forms.{Part, begins_with}
 use Rattle.expanding.specs.Asking.{spoken_in, asked}
-use Rattle.expanding.specs.Spreading.{assertion_at, cites}
+use Rattle.spreading.specs.Spreading.{assertion_at, cites}
 use Rattle.expanding.specs.Commands.{Command, command_of, AreCommands}
 
 -- ---- commands

@@ -13,8 +13,8 @@ use Rattle.source.specs.Statements.{Proof}
 use Rattle.source.specs.Scopes.{Scope, is_in}
 use Rattle.source.specs.Whole.{labels_in}
 use Rattle.giving.specs.Staying.{Change}
-use Rattle.expanding.specs.Forms.{Part}
-use Rattle.expanding.specs.Spreading.{assertion_at, cites}
+use Rattle.spreading.specs.Forms.{Part}
+use Rattle.spreading.specs.Spreading.{assertion_at, cites}
 use Rattle.expanding.specs.Commands.{Command, command_of}
 use Rattle.expanding.specs.Barred.{delete_of, move_of, moves, is_renamed, is_deleted}
 use Rattle.expanding.specs.declared.commands.Command.{Command as CodeCommand}

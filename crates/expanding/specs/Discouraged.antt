@@ -9,10 +9,10 @@ use Rattle.mmtext.specs.Text.{Token}
 use Rattle.mmtext.specs.Words.{Word}
 use Rattle.source.specs.Statements.{Proof}
 use Rattle.source.specs.Scopes.{Scope, is_in}
-use Rattle.expanding.specs.Words.{says}
-use Rattle.expanding.specs.Forms.{Part, begins_with}
+use Rattle.spreading.specs.Words.{says}
+use Rattle.spreading.specs.Forms.{Part, begins_with}
 use Rattle.expanding.specs.Cuts.{brought}
-use Rattle.expanding.specs.Spreading.{assertion_at, cites}
+use Rattle.spreading.specs.Spreading.{assertion_at, cites}
 use Rattle.expanding.specs.Descriptions.{unit_of, label_in}
 use Rattle.expanding.specs.Commands.{Command, AreCommands}
 use Rattle.expanding.specs.Called.{renames, Bearers, nobody, only, AreBearers, is_borne}

@@ -17,10 +17,10 @@ use crate::asking::asked_of;
 use crate::bars::{Bar, Said, bars_of, bars_there, said_of};
 use crate::commands::{Command, commands_of};
 use crate::labels::{holds, label_set};
-use crate::spreading::labels_in;
 use giving::LabelMap;
 use mmtext::Token;
 use source::Declared;
+use spreading::labels_in;
 use std::alloc::{AllocError, Global};
 use std::hash::RandomState;
 

@@ -11,10 +11,10 @@ ghost use Rattle.expanding.specs.Bars.{seen_command, seen_bar, bar_of_delete, ba
 
 use crate::commands::{Command, words_of};
 use crate::labels::{holds, label_set};
-use crate::spreading::cites;
 use giving::LabelMap;
 use mmtext::Token;
 use source::Declared;
+use spreading::cites;
 use std::alloc::{AllocError, Global};
 use std::hash::RandomState;
 

@@ -12,11 +12,10 @@ ghost use Rattle.expanding.specs.Views.{seen_scripts, seen_discouraged, seen_fou
 use crate::bearers::{Bearers, bearers_for};
 use crate::commands::{Command, commands_of};
 use crate::cuts::brought;
-use crate::forms::{begins_with, behind};
 use crate::names::Names;
-use crate::spreading::cites;
 use mmtext::Token;
 use source::Declared;
+use spreading::{begins_with, behind, cites};
 use std::alloc::{AllocError, Global};
 use std::hash::RandomState;
 

@@ -4,15 +4,14 @@ ghost use Rattle.std.specs.Prelude.{◌≡◌, ◌++◌, ◌≤◌, ◌∷◌, [
 ghost use Rattle.mmtext.specs.Text.{Token as Word};
 ghost use Rattle.mmtext.specs.Views.{seen};
 ghost use Rattle.expanding.specs.Refusals.{IsUnranked};
-ghost use Rattle.expanding.specs.Forms.{words_before_place, beginning_of};
+ghost use Rattle.spreading.specs.Forms.{words_before_place, beginning_of};
 ghost use Rattle.expanding.specs.Ranking.{IsRanked, gap_of_place, gap_of, taken_among, ranked_place, ranked_part, crowded_at, crowded_behind};
 ghost use Rattle.expanding.specs.Views.{IsLaid, IsRanker, IsRankerOf, IsGiven, IsTooMany, with_gap, with_beginning, AreFronts};
 
-use crate::forms::{beginning_of, is_behind, is_beside, part_length, split_place};
 use crate::laid::Laid;
-use crate::misfit::Misfit;
 use mmtext::Token;
 use source::Declared;
+use spreading::{Misfit, is_behind, is_beside, part_length, split_place};
 use std::alloc::{AllocError, Global};
 
 /// The most that scripts may put at one place.
@@ -38,6 +37,17 @@ fn fronts_of(alloc: Global, flags: &[bool]) -> Result<Vec<usize>, AllocError>
         fronts.push(count)?;
     }
     Ok(fronts)
+}
+
+/// The place of a part that begins a transaction.
+fn beginning_of(part: &[Token<'_>]) -> Option<usize>
+    ensures { result ≡ beginning_of (map seen part.now) }
+{
+    let first = part.first()?;
+    if first.text == b"begin".as_slice() {
+        return Some(first.place);
+    }
+    None
 }
 
 impl Ranker {

@@ -6,7 +6,7 @@ use Rattle.mmtext.specs.Views.{seen}
 use Rattle.mmtext.specs.declared.token.Token.{Token as CodeToken}
 use Rattle.expanding.specs.Refusals.{IsUnranked}
 use Rattle.expanding.specs.Ranking.{IsRanked}
-use Rattle.expanding.specs.declared.misfit.Misfit.TheVariants.{NoMemory}
+use Rattle.spreading.specs.declared.misfit.Misfit.TheVariants.{NoMemory}
 use Rattle.editscripts.specs.Expanded.{RankedScript}
 use Rattle.checking.specs.Checks.{Bytes}
 use Rattle.editscripts.specs.Refusals.{IsCrowdedBy, misfit_line}

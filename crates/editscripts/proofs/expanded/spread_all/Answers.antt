@@ -4,9 +4,9 @@ use Rattle.std.specs.Prelude.{◌≢◌, slice_index_or}
 use Rattle.std.proofs.lemmas.Option.{slice_get_read}
 use Rattle.mmtext.specs.Views.{seen}
 use Rattle.mmtext.specs.declared.token.Token.{Token as CodeToken}
-use Rattle.expanding.specs.Refusals.{IsUnspread}
-use Rattle.expanding.specs.Spreading.{IsSpread}
-use Rattle.expanding.specs.declared.misfit.Misfit.TheVariants.{NoMemory}
+use Rattle.spreading.specs.Refusals.{IsUnspread}
+use Rattle.spreading.specs.Spreading.{IsSpread}
+use Rattle.spreading.specs.declared.misfit.Misfit.TheVariants.{NoMemory}
 use Rattle.checking.specs.Checks.{Bytes}
 use Rattle.editscripts.specs.Refusals.{IsMisfitLine, misfit_line}
 use Rattle.expanding.specs.Views.{seen_scripts}

@@ -9,7 +9,7 @@ use Rattle.mmtext.specs.declared.token.Token.{Token as CodeToken}
 use Rattle.mmtext.specs.declared.fault.FaultKind.TheVariants.{NoMemory}
 use Rattle.checking.specs.Checks.{Bytes}
 use Rattle.locating.specs.Told.{text_line}
-use Rattle.expanding.specs.Words.{word_language}
+use Rattle.spreading.specs.Words.{word_language}
 use Rattle.editscripts.specs.Refusals.{IsWordlessLine}
 use Rattle.expanding.specs.Views.{seen_scripts}
 use Rattle.editscripts.specs.Views.{seen_texts}

@@ -1,0 +1,5 @@
+pub mod Words
+pub mod Forms
+pub mod Spreading
+pub mod Refusals
+pub mod Views
