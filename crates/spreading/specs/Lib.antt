@@ -1,5 +1,4 @@
 pub mod Words
 pub mod Forms
 pub mod Spreading
-pub mod Refusals
 pub mod Views

@@ -112,27 +112,26 @@ abbrev pub next_begins_with : Word → List Part → Bool
 next_begins_with w [] = false
 next_begins_with w (p ∷ ps) = begins_with w p
 
-abbrev pub or_first : Option Misfit → Option Misfit → Option Misfit
-or_first None later = later
-or_first (Some m) later = Some m
+abbrev pub with_misfit : Option Misfit → List Misfit → List Misfit
+with_misfit None later = later
+with_misfit (Some m) later = m ∷ later
 
--- the first, if there is one; whether `begin` stands right in front of these parts is said
-abbrev pub first_misfit : Scope → Bool → List Part → Option Misfit
-first_misfit s begun [] = None
-first_misfit s begun (p ∷ ps) =
-    or_first (misfit_of s (begun && next_begins_with (codes "commit") ps) p) (first_misfit s (begins_with (codes "begin") p) ps)
+-- all of them, in order; whether `begin` stands right in front of these parts is said
+abbrev pub misfits_in : Scope → Bool → List Part → List Misfit
+misfits_in s begun [] = []
+misfits_in s begun (p ∷ ps) =
+    with_misfit (misfit_of s (begun && next_begins_with (codes "commit") ps) p) (misfits_in s (begins_with (codes "begin") p) ps)
 
 -- ---- a script
 
--- the words of a script by the source, in which no such form is left but `behind`, and `before` the first assertion of all
-pub record IsSpread (s : Scope) (ts out : List Token) : Type 0 where
+-- the words of a script by the source, in which no such form is left but `behind`, and `before` the first assertion of all; and all that
+-- can't be in it
+pub record IsSpreadWith (s : Scope) (ts out : List Token) (ms : List Misfit) : Type 0 where
   pub parts : List Part
   pub are_parts : AreParts ts parts
-  pub all_fit : first_misfit s false parts ≡ None
   pub spread : out ≡ flat_map (spread_part s) parts
+  pub misfits : ms ≡ misfits_in s false parts
 
--- what can't be in them, the first
-pub record HasMisfit (s : Scope) (ts : List Token) (m : Misfit) : Type 0 where
-  pub parts : List Part
-  pub are_parts : AreParts ts parts
-  pub first : first_misfit s false parts ≡ Some m
+-- a script in which all can be
+abbrev pub IsSpread : Scope → List Token → List Token → Type 0
+IsSpread s ts out = IsSpreadWith s ts out []

@@ -19,13 +19,11 @@ abbrev pub place_words : Option ℕ → Part → List Token
 place_words None p = []
 place_words (Some n) p = drop n p
 
--- what the code tells of what can't be in one part
-abbrev pub IsMisfit : Option Misfit → CodeMisfit → Type 0
-IsMisfit m (misfit.Unknown t) = m ≡ Some (unknown (seen t))
-IsMisfit m (misfit.Numbered t) = m ≡ Some (numbered (seen t))
-IsMisfit m (misfit.NotAlone t) = m ≡ Some (not_alone (seen t))
-IsMisfit m (misfit.Crowded t) = ⊥
-IsMisfit m misfit.NoMemory = Unit {0}
+-- what can't be in a part
+abbrev pub seen_misfit : CodeMisfit → Misfit
+seen_misfit (misfit.Unknown t) = unknown (seen t)
+seen_misfit (misfit.Numbered t) = numbered (seen t)
+seen_misfit (misfit.NotAlone t) = not_alone (seen t)
 
 -- the words of `replace *`
 abbrev pub seen_star : CodeStar → Star

@@ -10,4 +10,4 @@ pub use forms::{
     begins_with, behind, first_place, is_behind, is_beside, part_length, place_length, split_place,
 };
 pub use misfit::Misfit;
-pub use spreading::{cites, labels_in, spread};
+pub use spreading::{SpreadScript, cites, labels_in, spread};

@@ -1,7 +1,7 @@
 //! The forms of a script that the source does away with: `replace * OLD NEW` is one transaction for each theorem that cites OLD, and
 //! `before M` is `behind` the assertion in front of M.
 
-ghost use Rattle.std.specs.Prelude.{◌≡◌, ◌++◌, ◌&&◌, [], codes, IfOk, IfErr, OnOk, Some, None, false, map, option_map, slice_get};
+ghost use Rattle.std.specs.Prelude.{◌≡◌, ◌++◌, ◌&&◌, [], codes, IfOk, OnOk, Some, None, false, map, option_map, slice_get};
 ghost use Rattle.std.specs.Option.{option_and_then};
 ghost use Rattle.mmtext.specs.Views.{seen};
 ghost use Rattle.mmtext.specs.Words.{all_digits};
@@ -10,9 +10,8 @@ ghost use Rattle.std.specs.Str.{bytes_eq};
 ghost use Rattle.source.specs.Views.{seen_words, seen_proof};
 ghost use Rattle.source.specs.Whole.{labels_in};
 ghost use Rattle.spreading.specs.Forms.{begins_with};
-ghost use Rattle.spreading.specs.Refusals.{IsUnspread};
-ghost use Rattle.spreading.specs.Spreading.{IsSpread, cites, citing, replaced_in_each, label_in_front, assertion_at, spread_place, spread_part, misfit_of, misfit_other, misfit_place, spread_other};
-ghost use Rattle.spreading.specs.Views.{IsMisfit, seen_star, citer};
+ghost use Rattle.spreading.specs.Spreading.{IsSpreadWith, cites, citing, replaced_in_each, label_in_front, assertion_at, spread_place, spread_part, unknown_label, with_misfit, misfit_of, misfit_other, misfit_place, spread_other};
+ghost use Rattle.spreading.specs.Views.{seen_misfit, seen_star, citer};
 
 use crate::forms::{begins_with, is_beside, part_length, split_place};
 use crate::misfit::Misfit;
@@ -97,28 +96,42 @@ fn put_each<'a>(
     Ok(())
 }
 
-/// Puts for a `replace *`, which stands alone in its transaction or doesn't, those of each theorem that cites the assertion.
+/// Puts for a `replace *` those of each theorem that cites the assertion.
 fn put_star<'a, D: Declared<'a>>(
     alloc: Global,
     declared: &D,
-    is_alone: bool,
     star: Star<'a>,
     out: &mut Vec<Token<'a>>,
-) -> Result<(), Misfit<'a>>
-    ensures fit { OnOk result (misfit_other (D.scope declared.now) is_alone [] (Some (seen_star star.entry)) ≡ None) }
-    ensures spread { OnOk result (map seen out.new.items
+) -> Result<(), AllocError>
+    ensures { OnOk result (map seen out.new.items
         ≡ map seen out.old.items ++ replaced_in_each (seen_star star.entry) (citing (D.scope declared.now) star.entry.old.text.now)) }
-    ensures misfit { IfErr result (IsMisfit (misfit_other (D.scope declared.now) is_alone [] (Some (seen_star star.entry)))) }
+{
+    let labels = citing(alloc, declared, star.old.text)?;
+    put_each(star, labels.as_slice(), out)
+}
+
+/// Why a `replace *` can't be, which stands alone in its transaction or doesn't.
+fn misfit_of_star<'a, D: Declared<'a>>(
+    declared: &D,
+    is_alone: bool,
+    star: Star<'a>,
+) -> Option<Misfit<'a>>
+    ensures { option_map seen_misfit result ≡ misfit_other (D.scope declared.now) is_alone [] (Some (seen_star star.entry)) }
 {
     if !is_alone {
-        return Err(Misfit::NotAlone(star.star));
+        return Some(Misfit::NotAlone(star.star));
     }
-    if declared.place_of(star.old.text).is_none() {
-        return Err(Misfit::Unknown(star.old));
+    unknown_label(declared, star.old)
+}
+
+/// Why a word can't be a label of the source, if it is none.
+fn unknown_label<'a, D: Declared<'a>>(declared: &D, word: Token<'a>) -> Option<Misfit<'a>>
+    ensures { option_map seen_misfit result ≡ unknown_label (D.scope declared.now) (seen word.entry) }
+{
+    match declared.place_of(word.text) {
+        None => Some(Misfit::Unknown(word)),
+        Some(_) => None,
     }
-    let labels = citing(alloc, declared, star.old.text)?;
-    put_each(star, labels.as_slice(), out)?;
-    Ok(())
 }
 
 // ---- before M
@@ -131,17 +144,13 @@ fn label_in_front<'a, D: Declared<'a>>(declared: &D, label: &[u8]) -> Option<&'a
 }
 
 /// Why words can't say where something is put.
-fn misfit_place<'a, D: Declared<'a>>(declared: &D, words: &[Token<'a>]) -> Result<(), Misfit<'a>>
-    ensures fit { OnOk result (misfit_place (D.scope declared.now) (map seen words.now) ≡ None) }
-    ensures misfit { IfErr result (IsMisfit (misfit_place (D.scope declared.now) (map seen words.now))) }
+fn misfit_place<'a, D: Declared<'a>>(declared: &D, words: &[Token<'a>]) -> Option<Misfit<'a>>
+    ensures { option_map seen_misfit result ≡ misfit_place (D.scope declared.now) (map seen words.now) }
 {
     match words {
-        [how, label, ..] if is_beside(*how) => match declared.place_of(label.text) {
-            None => Err(Misfit::Unknown(*label)),
-            Some(_) => Ok(()),
-        },
-        [how, ..] if is_number(how.text) => Err(Misfit::Numbered(*how)),
-        _ => Ok(()),
+        [how, label, ..] if is_beside(*how) => unknown_label(declared, *label),
+        [how, ..] if is_number(how.text) => Some(Misfit::Numbered(*how)),
+        _ => None,
     }
 }
 
@@ -176,37 +185,44 @@ fn put_other<'a, D: Declared<'a>>(
     declared: &D,
     part: &[Token<'a>],
     out: &mut Vec<Token<'a>>,
-) -> Result<(), Misfit<'a>>
-    ensures fit { OnOk result (misfit_other (D.scope declared.now) false (map seen part.now) None ≡ None) }
-    ensures spread { OnOk result (map seen out.new.items
+) -> Result<(), AllocError>
+    ensures { OnOk result (map seen out.new.items
         ≡ map seen out.old.items ++ spread_other (D.scope declared.now) (map seen part.now) None) }
-    ensures misfit { IfErr result (IsMisfit (misfit_other (D.scope declared.now) false (map seen part.now) None)) }
 {
     let (front, place) = split_place(part);
-    misfit_place(declared, place)?;
     out.extend_from_slice(front)?;
-    put_place(declared, place, out)?;
-    Ok(())
+    put_place(declared, place, out)
 }
 
 // ---- all parts
 
-/// Puts a part, which stands alone in its transaction or doesn't.
+/// Puts a part.
 fn put_part<'a, D: Declared<'a>>(
     alloc: Global,
     declared: &D,
-    is_alone: bool,
     part: &[Token<'a>],
     out: &mut Vec<Token<'a>>,
-) -> Result<(), Misfit<'a>>
-    ensures fit { OnOk result (misfit_of (D.scope declared.now) is_alone (map seen part.now) ≡ None) }
-    ensures spread { OnOk result (map seen out.new.items
+) -> Result<(), AllocError>
+    ensures { OnOk result (map seen out.new.items
         ≡ map seen out.old.items ++ spread_part (D.scope declared.now) (map seen part.now)) }
-    ensures misfit { IfErr result (IsMisfit (misfit_of (D.scope declared.now) is_alone (map seen part.now))) }
 {
     match star_of(part) {
-        Some(star) => put_star(alloc, declared, is_alone, star, out),
+        Some(star) => put_star(alloc, declared, star, out),
         None => put_other(declared, part, out),
+    }
+}
+
+/// Why a part can't be, which stands alone in its transaction or doesn't.
+fn misfit_of<'a, D: Declared<'a>>(
+    declared: &D,
+    is_alone: bool,
+    part: &[Token<'a>],
+) -> Option<Misfit<'a>>
+    ensures { option_map seen_misfit result ≡ misfit_of (D.scope declared.now) is_alone (map seen part.now) }
+{
+    match star_of(part) {
+        Some(star) => misfit_of_star(declared, is_alone, star),
+        None => misfit_place(declared, split_place(part).1),
     }
 }
 
@@ -217,29 +233,62 @@ fn is_enclosed(is_begun: bool, behind: &[Token<'_>]) -> bool
     is_begun && begins_with(behind, b"commit")
 }
 
-/// The words of a script by the source, which has done away with `replace *` and `before`, but before the first assertion of all. Each
-/// has the place of the word in the script for which it stands.
+/// A script by the source.
+#[derive(Drop)]
+pub struct SpreadScript<'a> {
+    /// Its words: `replace *` and `before` are done away with, but before the first assertion of all. Each has the place of the word in
+    /// the script for which it stands.
+    pub words: Vec<Token<'a>>,
+    /// What can't be in it, in the order of its commands: an unknown label behind `behind`, `before` or `replace *`, a number that says
+    /// where something is put, a `replace *` beside another command.
+    pub misfits: Vec<Misfit<'a>>,
+}
+
+impl<'a> SpreadScript<'a> {
+    /// Puts a part, which stands alone in its transaction or doesn't.
+    fn put<D: Declared<'a>>(
+        &mut self,
+        alloc: Global,
+        declared: &D,
+        is_alone: bool,
+        part: &[Token<'a>],
+    ) -> Result<(), AllocError>
+        ensures words { OnOk result (map seen self.new.words.items
+            ≡ map seen self.old.words.items ++ spread_part (D.scope declared.now) (map seen part.now)) }
+        ensures misfits { OnOk result (map seen_misfit self.new.misfits.items
+            ≡ map seen_misfit self.old.misfits.items
+            ++ with_misfit (misfit_of (D.scope declared.now) is_alone (map seen part.now)) []) }
+    {
+        if let Some(misfit) = misfit_of(declared, is_alone, part) {
+            self.misfits.push(misfit)?;
+        }
+        put_part(alloc, declared, part, &mut self.words)
+    }
+}
+
+/// The words of a script by the source, and all that can't be in it.
 ///
 /// # Errors
 ///
-/// The first word that can't be: an unknown label behind `behind`, `before` or `replace *`, a number that says where something is put, a
-/// `replace *` beside another command; want of memory.
+/// Want of memory.
 pub fn spread<'a, D: Declared<'a>>(
     alloc: Global,
     declared: &D,
     words: &[Token<'a>],
-) -> Result<Vec<Token<'a>>, Misfit<'a>>
-    ensures spread { IfOk result (λ out. IsSpread (D.scope declared.now) (map seen words.now) (map seen out.items)) }
-    ensures misfit { IfErr result (IsUnspread (D.scope declared.now) (map seen words.now)) }
+) -> Result<SpreadScript<'a>, AllocError>
+    ensures { IfOk result (λ out.
+        IsSpreadWith (D.scope declared.now) (map seen words.now) (map seen out.words.items) (map seen_misfit out.misfits.items)) }
 {
-    let mut out = Vec::new(alloc);
+    let mut out = SpreadScript {
+        words: Vec::new(alloc),
+        misfits: Vec::new(alloc),
+    };
     let mut at = 0;
     let mut is_begun = false;
     while at < words.len() {
         let rest = &words[at..];
         let (part, behind) = rest.split_at(part_length(rest));
-        let is_alone = is_enclosed(is_begun, behind);
-        put_part(alloc, declared, is_alone, part, &mut out)?;
+        out.put(alloc, declared, is_enclosed(is_begun, behind), part)?;
         is_begun = begins_with(part, b"begin");
         at += part.len();
     }
