@@ -8,6 +8,7 @@ pub mod Commanding
 pub mod Looking
 pub mod Barring
 pub mod Gathered
+pub mod Moving
 pub mod Fronting
 pub mod Cutting
 pub mod Renaming

@@ -11,7 +11,6 @@ use Rattle.expanding.specs.declared.laid.Stretch.{Stretch}
 use Rattle.expanding.specs.declared.laid.Laid.{Laid}
 use Rattle.expanding.specs.declared.ranking.Ranker.{Ranker}
 use Rattle.mmtext.specs.Views.{seen}
-use Rattle.spreading.specs.Spreading.{Star, Misfit, unknown, numbered, not_alone, cites}
 use Rattle.expanding.specs.Cuts.{Cut}
 use Rattle.expanding.specs.Discouraged.{Discouraged, modifies, uses}
 use Rattle.expanding.specs.declared.cuts.Cut.{Cut as CodeCut}
@@ -19,9 +18,8 @@ use Rattle.expanding.specs.declared.discouraged.Discouraged.{Discouraged as Code
 use Rattle.expanding.specs.declared.discouraged.Discouraged.TheVariants as code
 use Rattle.mmtext.specs.Words.{Word}
 use Rattle.source.specs.Scopes.{Assertion, Scope}
-use Rattle.spreading.specs.declared.star.Star.{Star as CodeStar}
-use Rattle.spreading.specs.declared.misfit.Misfit.{Misfit as CodeMisfit}
-use Rattle.spreading.specs.declared.misfit.Misfit.TheVariants as misfit
+use Rattle.expanding.specs.declared.unranked.Unranked.{Unranked}
+use Rattle.expanding.specs.declared.unranked.Unranked.TheVariants as unranked
 
 -- a word's length and place
 abbrev pub stretch_of : Token → ℕ × ℕ
@@ -72,10 +70,9 @@ with_beginning places None = places
 with_beginning places (Some place) = places ++ place ∷ []
 
 -- what it tells where no more may be put
-abbrev pub IsTooMany : Option Token → CodeMisfit → Type 0
-IsTooMany o (misfit.Crowded t) = o ≡ Some (seen t)
-IsTooMany o misfit.NoMemory = Unit {0}
-IsTooMany o _ = ⊥
+abbrev pub IsTooMany : Option Token → Unranked → Type 0
+IsTooMany o (unranked.Crowded t) = o ≡ Some (seen t)
+IsTooMany o unranked.NoMemory = Unit {0}
 
 -- the words of scripts
 abbrev pub seen_scripts : List (Vec CodeToken Global) → List (List Token)

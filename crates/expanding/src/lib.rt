@@ -15,6 +15,7 @@ mod laid;
 mod names;
 mod ranking;
 mod renamed;
+mod unranked;
 mod words;
 
 pub use asking::{Asked, asked_of};
@@ -24,4 +25,5 @@ pub use described::{Described, described_in};
 pub use discouraged::{Discouraged, discouraged_of};
 pub use laid::Laid;
 pub use ranking::Ranker;
+pub use unranked::Unranked;
 pub use words::words_in;

@@ -9,9 +9,10 @@ ghost use Rattle.expanding.specs.Ranking.{IsRanked, gap_of_place, gap_of, taken_
 ghost use Rattle.expanding.specs.Views.{IsLaid, IsRanker, IsRankerOf, IsGiven, IsTooMany, with_gap, with_beginning, AreFronts};
 
 use crate::laid::Laid;
+use crate::unranked::Unranked;
 use mmtext::Token;
 use source::Declared;
-use spreading::{Misfit, is_behind, is_beside, part_length, split_place};
+use spreading::{is_behind, is_beside, part_length, split_place};
 use std::alloc::{AllocError, Global};
 
 /// The most that scripts may put at one place.
@@ -126,7 +127,7 @@ impl Ranker {
         declared: &D,
         words: &[Token<'w>],
         laid: &mut Laid,
-    ) -> Result<(), Misfit<'w>>
+    ) -> Result<(), Unranked<'w>>
         ensures laid { (flags : List Bool) (earlier : List ℕ) → IsRankerOf (D.scope declared.now) flags earlier self.old
             → OnOk result ((ts : List Word) → IsLaid ts laid.old
             → IsLaid (ts ++ ranked_place (D.scope declared.now) flags earlier (map seen words.now)) laid.new) }
@@ -150,7 +151,7 @@ impl Ranker {
             return Ok(());
         };
         let Some(rank) = self.rank_at(gap) else {
-            return Err(Misfit::Crowded(*how));
+            return Err(Unranked::Crowded(*how));
         };
         laid.put_rank(alloc, rank, how.place)?;
         laid.put_words(others)?;
@@ -164,7 +165,7 @@ impl Ranker {
         declared: &D,
         part: &[Token<'w>],
         laid: &mut Laid,
-    ) -> Result<(), Misfit<'w>>
+    ) -> Result<(), Unranked<'w>>
         ensures laid { (flags : List Bool) (earlier : List ℕ) → IsRankerOf (D.scope declared.now) flags earlier self.old
             → OnOk result ((ts : List Word) → IsLaid ts laid.old
             → IsLaid (ts ++ ranked_part (D.scope declared.now) flags earlier (map seen part.now)) laid.new) }
@@ -197,7 +198,7 @@ impl Ranker {
         alloc: Global,
         declared: &D,
         words: &[Token<'w>],
-    ) -> Result<Laid, Misfit<'w>>
+    ) -> Result<Laid, Unranked<'w>>
         ensures ranked { (flags : List Bool) (earlier : List ℕ) → IsRanker flags earlier self.old
             → length flags ≡ length (D.scope declared.now).assertions
             → IfOk result (λ laid. (out : List Word) × (gaps : List ℕ) × IsLaid out laid × IsRanker flags (earlier ++ gaps) self.new
