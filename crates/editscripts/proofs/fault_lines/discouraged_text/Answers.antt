@@ -5,7 +5,7 @@ use Rattle.std.specs.declared.alloc.Global.{Global}
 use Rattle.std.proofs.lemmas.Result.{IfOk-weaker}
 use Rattle.expanding.specs.Views.{seen_discouraged}
 use Rattle.editscripts.specs.Encouraged.{discouraged_text}
-use Rattle.editscripts.proofs.discouraging.discouraged_text.Goals as goal
+use Rattle.editscripts.proofs.fault_lines.discouraged_text.Goals as goal
 
 pub returns-in-Modifies : goal.returns-in-Modifies
 returns-in-Modifies c =

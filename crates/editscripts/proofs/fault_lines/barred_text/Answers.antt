@@ -6,7 +6,7 @@ use Rattle.std.proofs.lemmas.Result.{IfOk-weaker}
 use Rattle.checking.specs.FaultLines.{shown_label}
 use Rattle.mmtext.specs.Views.{seen}
 use Rattle.editscripts.specs.Refusals.{barred_text}
-use Rattle.editscripts.proofs.barring.barred_text.Goals as goal
+use Rattle.editscripts.proofs.fault_lines.barred_text.Goals as goal
 
 pub returns : goal.returns
 returns c =
@@ -15,9 +15,9 @@ returns c =
     let label = c.shown-label.result.now in
     let by = c.shown-by.result.now in
     IfOk-weaker c.format.result (λ (said : String Global). string_bytes said ≡ text label by)
-    (λ (said : String Global). string_bytes said ≡ barred_text (seen c.args.barred.now.word) c.args.barred.now.by.now)
+    (λ (said : String Global). string_bytes said ≡ barred_text (seen c.args.word) c.args.by.now)
     (λ said is.
     is
     ∙ ap (λ (l : List ℕ). text l by) c.shown-label.ensures
-    ∙ ap (λ (b : List ℕ). text (shown_label c.args.barred.now.word.text.now) b) c.shown-by.ensures)
+    ∙ ap (λ (b : List ℕ). text (shown_label c.args.word.text.now) b) c.shown-by.ensures)
     c.format.ensures.ok
