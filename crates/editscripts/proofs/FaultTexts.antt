@@ -43,7 +43,8 @@ told_are paths texts faults n is told more front back =
     let all = map seen_fault faults in
     let least : n ≡ min MOST_TOLD (length faults) = omega arith in
     let first : map seen_fault told ≡ take MOST_TOLD all =
-    ap (map seen_fault) (front ∙ (ap (λ k. take k faults) least ∙ take_min MOST_TOLD faults)) ∙ sym (take-map seen_fault MOST_TOLD faults) in
+    ap (map seen_fault) (front ∙ (ap (λ k. take k faults) least ∙ take_min MOST_TOLD faults))
+    ∙ sym (take-map seen_fault MOST_TOLD faults) in
     let long = length-map faults seen_fault in
     let left = length-drop n faults in
     let rest : length more ≡ length all - MOST_TOLD = ap length back ∙ omega (arith, is, long, left) in

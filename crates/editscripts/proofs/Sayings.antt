@@ -156,7 +156,8 @@ module _ (source : Bytes) (s : Scope) (texts : List Bytes) (force : Bool) (words
     free_of : AreFree s outs
     free_of script label by h =
         let w = barred.are_barred.complete script label by h in
-        let never : Contains [] (barred_by script label w.0) = subst (λ bs. Contains bs (barred_by script label w.0)) (none_mapped barred_fault barred.barred none_barred.1) w.1 in
+        let b = barred_by script label w.0 in
+        let never : Contains [] b = subst (λ bs. Contains bs b) (none_mapped barred_fault barred.barred none_barred.1) w.1 in
         omega (arith, never.1)
 
     pub allowed_of : AreAllowed source s force outs

@@ -9,5 +9,6 @@ use Rattle.editscripts.proofs.fault_lines.fault_line.Goals as goal
 pub returns-in-Forbidden : goal.returns-in-Forbidden
 returns-in-Forbidden c =
     subst
-    (λ (what : CodeWhat). IfOk c.barred_line.result (λ line. string_bytes line ≡ fault_line c.args.path.now c.args.text.now (seen_what what)))
+    (λ (what : CodeWhat). IfOk c.barred_line.result
+    (λ line. string_bytes line ≡ fault_line c.args.path.now c.args.text.now (seen_what what)))
     (sym c.in-Forbidden.is) c.barred_line.ensures

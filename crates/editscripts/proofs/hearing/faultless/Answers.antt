@@ -21,7 +21,8 @@ returns-then-is_empty-clause-spread g c =
     let second = map seen_fault c.spread_all.new.faults.items in
     let third = map seen_fault c.put_barred.new.faults.items in
     let last = map seen_fault c.put_discouraged.new.faults.items in
-    let read = subst (λ (fs : List CodeFault). AreRead texts (map seen_fault fs) first words) c.new-faults.ensures.items c.in_ok-words.ensures in
+    let read =
+    subst (λ (fs : List CodeFault). AreRead texts (map seen_fault fs) first words) c.new-faults.ensures.items c.in_ok-words.ensures in
     let spread =
     subst (λ (ws : List (Vec CodeToken Global)). AreSpreadOut s (seen_scripts ws) first second outs) c.as_slice.ensures.value
     c.in_ok-spread.ensures in
@@ -46,7 +47,8 @@ returns-then-is_empty-clause-allowed g c =
     let second = map seen_fault c.spread_all.new.faults.items in
     let third = map seen_fault c.put_barred.new.faults.items in
     let last = map seen_fault c.put_discouraged.new.faults.items in
-    let read = subst (λ (fs : List CodeFault). AreRead texts (map seen_fault fs) first words) c.new-faults.ensures.items c.in_ok-words.ensures in
+    let read =
+    subst (λ (fs : List CodeFault). AreRead texts (map seen_fault fs) first words) c.new-faults.ensures.items c.in_ok-words.ensures in
     let spread =
     subst (λ (ws : List (Vec CodeToken Global)). AreSpreadOut s (seen_scripts ws) first second outs) c.as_slice.ensures.value
     c.in_ok-spread.ensures in
@@ -71,7 +73,8 @@ returns-clause-refused g c =
     let second = map seen_fault c.spread_all.new.faults.items in
     let third = map seen_fault c.put_barred.new.faults.items in
     let last = map seen_fault c.put_discouraged.new.faults.items in
-    let read = subst (λ (fs : List CodeFault). AreRead texts (map seen_fault fs) first words) c.new-faults.ensures.items c.in_ok-words.ensures in
+    let read =
+    subst (λ (fs : List CodeFault). AreRead texts (map seen_fault fs) first words) c.new-faults.ensures.items c.in_ok-words.ensures in
     let spread =
     subst (λ (ws : List (Vec CodeToken Global)). AreSpreadOut s (seen_scripts ws) first second outs) c.as_slice.ensures.value
     c.in_ok-spread.ensures in

@@ -22,6 +22,7 @@ loop-script-preserved g c =
     let long = length-map scripts view in
     let within : k < length (seen_scripts scripts) = omega (arith, long, c.loop-script-test.true) in
     let x = seen_spread c.in_ok-out.out in
-    let one = subst (λ (ts : List CodeToken). IsSpreadWith s (map seen ts) x.words x.misfits) c.as_slice.ensures.value c.in_ok-out.ensures in
+    let one =
+    subst (λ (ts : List CodeToken). IsSpreadWith s (map seen ts) x.words x.misfits) c.as_slice.ensures.value c.in_ok-out.ensures in
     spread_next s (seen_scripts scripts) k (map seen words.items) (get_seen view scripts k words at) within _ _ _ _ _ x
     c.loop-script.invariant one c.in_ok-put_spread.ensures.words c.in_ok-put_spread.ensures.faults
