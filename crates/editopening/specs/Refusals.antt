@@ -15,8 +15,9 @@ use Rattle.intake.specs.Intakes.{IsRefusedOf}
 use Rattle.taketext.specs.Refusals.{refusal_line as taking_line}
 use Rattle.checking.specs.Checks.{Bytes}
 use Rattle.editscripts.specs.Expanded.{IsSpreadOf}
-use Rattle.editscripts.specs.Encouraged.{AreFree, AreAllowed, IsDiscouragedBy}
-use Rattle.editscripts.specs.Refusals.{IsWordlessLine, IsMisfitLine, IsBarredBy, IsUnlaidBy, IsUnreadBy}
+use Rattle.editscripts.specs.Encouraged.{AreAllowed}
+use Rattle.editscripts.specs.Faults.{IsFaultsText}
+use Rattle.editscripts.specs.Refusals.{IsUnlaidBy, IsUnreadBy}
 use Rattle.standins.specs.StandIns.{StandIn, with_stand_ins}
 use Rattle.editopening.specs.Opening.{IsAskedBy, Asked, Ranked, Begun, taken_of, stand_ins_of}
 
@@ -27,19 +28,6 @@ pub record IsFaultyLine (path source line : Bytes) : Type 0 where
   pub says : line ≡ taking_line path source (untaken.Source found)
 
 -- ---- scripts, which count from 0
-
-pub record IsBarredLine (paths : List Bytes) (s : Scope) (texts : List Bytes) (line : Bytes) : Type 0 where
-  pub spread : List (List Token)
-  pub of_source : IsSpreadOf s texts spread
-  pub cause : IsBarredBy paths s texts spread line
-
--- nothing forbids what scripts do, and comments of the source discourage it, and it isn't forced
-pub record IsDiscouragedLine (paths : List Bytes) (source : Bytes) (s : Scope) (texts : List Bytes) (force : Bool) (line : Bytes)
-    : Type 0 where
-  pub spread : List (List Token)
-  pub of_source : IsSpreadOf s texts spread
-  pub free : AreFree s spread
-  pub cause : IsDiscouragedBy paths source s texts force spread line
 
 -- no library is taken of what the source declares by the wish of the scripts
 pub record IsUntakenBy (path source : Bytes) (s : Scope) (scripts : List (List Token)) (line : Bytes) : Type 0 where
@@ -80,15 +68,11 @@ pub record IsUnopenedLine (path source : Bytes) (texts : List Bytes) (force : Bo
   pub allowed : AreAllowed source begun.old force begun.with_ranks.over.spread
   pub cause : IsUnopenedBy path (taken_of begun).database (stand_ins_of begun) line
 
--- why scripts aren't begun over what a source declares: they have words; these fit the source; nothing forbids what they do; no comment
--- discourages it, or it is forced; a library is taken; they have texts over it, are read, and have a library to be run over. The first of
--- these that isn't so is told
+-- why scripts aren't begun over what a source declares: nothing is wrong with them that can be told before; a library is taken; they have
+-- texts over it, are read, and have a library to be run over. The first of these that isn't so is told, and of what is wrong all
 abbrev pub IsUnbegunLine : Bytes → List Bytes → Bytes → Scope → List Bytes → Bool → Bytes → Type 0
 IsUnbegunLine path paths source s texts force line =
-    IsWordlessLine paths texts line
-    ⊎ (IsMisfitLine paths s texts line
-    ⊎ (IsBarredLine paths s texts line
-    ⊎ (IsDiscouragedLine paths source s texts force line
+    IsFaultsText paths source s texts force line
     ⊎ (IsUntakenLine path source s texts force line
     ⊎ (IsUnlaidLine paths source s texts force line
-    ⊎ (IsUnreadLine paths source s texts force line ⊎ IsUnopenedLine path source texts force line))))))
+    ⊎ (IsUnreadLine paths source s texts force line ⊎ IsUnopenedLine path source texts force line)))

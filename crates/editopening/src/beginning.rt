@@ -18,10 +18,7 @@ ghost use Rattle.standins.specs.Views.{IsOpened, opened_database};
 
 use crate::order::EditOrder;
 use choosing::{Wish, wanted_of};
-use editscripts::{
-    Unedited, are_encouraged, are_free, descriptions_of, lay_all, quotes_of, read_all, spread_of,
-    untaken,
-};
+use editscripts::{Unedited, descriptions_of, faultless, lay_all, quotes_of, read_all, untaken};
 use expanding::{Described, Laid, asked_of};
 use following::Follow;
 use intake::{Taken, take_declared};
@@ -122,7 +119,8 @@ fn open_for<'a, D: Declared<'a>>(
 ///
 /// # Errors
 ///
-/// A line that tells the first thing that is wrong with the scripts, or why no library is taken for them; want of memory.
+/// The lines of all that is wrong with the scripts and can be told before; else a line that tells why no library is taken for them, or the
+/// first thing that is wrong with them over it; want of memory.
 pub fn begin<'a, D: Declared<'a>>(
     rt: &(impl Threads + Sync),
     alloc: Global,
@@ -139,12 +137,9 @@ pub fn begin<'a, D: Declared<'a>>(
     ensures refused { IfErr result (IsToldBy (IsUnbegunLine order.entry.path.now (map (λ p. p.now) order.entry.paths.now) source.now
         (D.scope declared.now) (seen_texts texts.now) order.entry.force)) }
 {
-    let spread = spread_of(alloc, order.paths, declared, texts)?;
+    let (path, paths, force) = (order.path, order.paths, order.force);
+    let spread = faultless(alloc, keys, paths, source, declared, texts, force)?;
     let spread = spread.as_slice();
-    let (paths, force) = (order.paths, order.force);
-    are_free(alloc, keys, paths, declared, texts, spread)?;
-    are_encouraged(alloc, keys, paths, source, declared, texts, force, spread)?;
-    let path = order.path;
     let taken = take_for(rt, alloc, keys, path, source, declared, spread, follow)?;
     let (database, flags) = (&taken.database, taken.chosen.as_slice());
     // For the proof: the library has a spelling, so what is taken is as narrow.

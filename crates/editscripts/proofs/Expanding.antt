@@ -12,7 +12,7 @@ use Rattle.mmsyntax.proofs.Items.{take_next}
 use Rattle.source.specs.Scopes.{Scope}
 use Rattle.checking.specs.Checks.{Bytes, Orders, IsScript, AreScripts}
 use Rattle.expanding.specs.Ranking.{IsRanked}
-use Rattle.expanding.specs.Words.{text_of}
+use Rattle.spreading.specs.Words.{text_of}
 use Rattle.expanding.specs.declared.laid.Laid.{Laid}
 use Rattle.editscripts.specs.Expanded.{RankedScript, AreRanked, texts_of}
 use Rattle.editscripts.specs.Views.{IsLaidOf, AreLaid, beginnings_of}

@@ -3,4 +3,6 @@ pub mod Undoing
 pub mod Describing
 pub mod Chosen
 pub mod Lines
-pub mod Within
+pub mod Placing
+pub mod FaultTexts
+pub mod Sayings

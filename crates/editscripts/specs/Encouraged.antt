@@ -1,6 +1,6 @@
 -- Scripts that may be run: no theorem forbids what they do, and no comment of the source discourages it; and the line that says of others
 -- what they do although it is discouraged.
-use Rattle.std.specs.Prelude.{◌≡◌, ◌+◌, ℕ, Bool, false, List, [], ◌++◌, Some, None, codes, slice_index_or}
+use Rattle.std.specs.Prelude.{◌≡◌, ℕ, Bool, false, List, [], ◌++◌, Some, codes}
 use Rattle.mmtext.specs.Text.{Token}
 use Rattle.mmtext.specs.Words.{Word}
 use Rattle.source.specs.Scopes.{Scope}
@@ -29,7 +29,7 @@ AreFree s scripts = (script : ℕ) (label : Token) (by : Bytes) → IsBarred s s
 -- the scripts do nothing that comments discourage
 pub record AreEncouraged (source : Bytes) (s : Scope) (scripts : List (List Token)) : Type 0 where
   pub remarks : Remarks source
-  pub none : AreDiscouraged s (remarked_in remarks) scripts None
+  pub none : AreDiscouraged s (remarked_in remarks) scripts []
 
 -- neither is so, unless what is discouraged is forced
 pub record AreAllowed (source : Bytes) (s : Scope) (force : Bool) (scripts : List (List Token)) : Type 0 where
@@ -38,7 +38,7 @@ pub record AreAllowed (source : Bytes) (s : Scope) (force : Bool) (scripts : Lis
 
 -- ---- they may not
 
--- they do, first with this word: at it, `LABEL: ` and the words of the comment
+-- they do, with this word: at it, `LABEL: ` and the words of the comment
 abbrev pub discouraged_word : Discouraged → Token
 discouraged_word (modifies t) = t
 discouraged_word (uses t) = t
@@ -49,13 +49,3 @@ discouraged_text (uses t) = shown_label t.text ++ codes ": new usage is discoura
 
 abbrev pub discouraged_line : Bytes → Bytes → Discouraged → Bytes
 discouraged_line path text d = told_at path text (Some (spot_at text (discouraged_word d).place)) (discouraged_text d)
-
--- scripts aren't run that do what is discouraged, unless that is forced
-pub record IsDiscouragedBy (paths : List Bytes) (source : Bytes) (s : Scope) (texts : List Bytes) (force : Bool)
-    (scripts : List (List Token)) (line : Bytes) : Type 0 where
-  pub unforced : force ≡ false
-  pub remarks : Remarks source
-  pub script : ℕ
-  pub what : Discouraged
-  pub first : AreDiscouraged s (remarked_in remarks) scripts (Some (script, what))
-  pub says : line ≡ discouraged_line (slice_index_or paths (script + 1) []) (slice_index_or texts script []) what

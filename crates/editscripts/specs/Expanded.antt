@@ -6,8 +6,8 @@ use Rattle.mmtext.specs.Text.{Token}
 use Rattle.mmtext.specs.Laws.{Says}
 use Rattle.source.specs.Scopes.{Assertion, Scope}
 use Rattle.checking.specs.Checks.{Bytes}
-use Rattle.expanding.specs.Words.{word_language, text_of}
-use Rattle.expanding.specs.Spreading.{IsSpread}
+use Rattle.spreading.specs.Words.{word_language, text_of}
+use Rattle.spreading.specs.Spreading.{IsSpread}
 use Rattle.expanding.specs.Ranking.{IsRanked}
 use Rattle.mmsyntax.specs.Tables.{Contents}
 use Rattle.pasting.specs.Places.{places_in}

@@ -6,3 +6,5 @@ pub mod Replies
 pub mod Views
 pub mod Refusals
 pub mod Encouraged
+pub mod Faults
+pub mod Gathered

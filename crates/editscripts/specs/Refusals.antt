@@ -1,70 +1,38 @@
 -- Why scripts can't be read over a source, and the line that says so.
 use Rattle.std.specs.Prelude.{◌≡◌, ◌≢◌, ◌⊎◌, ◌+◌, ℕ, Bool, List, [], ◌++◌, length, take, Some, codes, slice_get, slice_index_or, string_bytes}
 use Rattle.mmtext.specs.Text.{Token}
-use Rattle.mmtext.specs.Languages.{Faulty}
 use Rattle.mmtext.specs.declared.fault.TextFault.{TextFault}
 use Rattle.mmtext.specs.declared.fault.FaultKind.TheVariants.{NoMemory as OutOfMemory}
 use Rattle.source.specs.Scopes.{Assertion, Scope}
 use Rattle.checking.specs.Checks.{Bytes, Orders, AreScripts}
 use Rattle.checking.specs.FaultLines.{shown_label}
 use Rattle.scripts.specs.ScriptFaults.{FaultyScript}
-use Rattle.expanding.specs.declared.misfit.Misfit.{Misfit}
-use Rattle.expanding.specs.declared.misfit.Misfit.TheVariants as misfit
+use Rattle.spreading.specs.Spreading.{Misfit, unknown, numbered, not_alone}
 use Rattle.locating.specs.Told.{told_at, spot_at, text_line}
-use Rattle.expanding.specs.Words.{word_language, text_of, place_at}
-use Rattle.expanding.specs.Refusals.{IsUnspread, IsUnranked}
-use Rattle.expanding.specs.Barred.{IsBarred}
+use Rattle.spreading.specs.Words.{text_of, place_at}
+use Rattle.expanding.specs.Ranking.{IsCrowded}
 use Rattle.mmsyntax.specs.Tables.{Tables, Contents}
 use Rattle.taking.specs.Names.{Map}
 use Rattle.pasting.specs.Places.{places_in}
 use Rattle.pasting.specs.Pasted.{PasteFault, HasPasteFault, AreAdditions}
 use Rattle.editscripts.specs.declared.unedited.Unedited.{Unedited}
 use Rattle.editscripts.specs.declared.unedited.Unedited.TheVariants as unedited
-use Rattle.editscripts.specs.Expanded.{AreWordsOf, AreSpread, ArePasted, ArePastedWith, RankedScript, AreRanked, texts_of}
-
--- a script has another byte than one may have, or a comment that isn't closed; those before it have words
-pub record IsWordlessLine (paths texts : List Bytes) (line : Bytes) : Type 0 where
-  pub script : ℕ
-  pub before : List (List Token)
-  pub are_words : AreWordsOf (take script texts) before
-  pub text : Bytes
-  pub at : slice_get texts script ≡ Some text
-  pub found : TextFault
-  pub faulty : Faulty word_language text found
-  pub says : line ≡ text_line (slice_index_or paths (script + 1) []) text found
+use Rattle.editscripts.specs.Expanded.{ArePasted, ArePastedWith, RankedScript, AreRanked, texts_of}
 
 -- the word that doesn't fit, and why
-abbrev pub misfit_place : Misfit → ℕ
-misfit_place (misfit.Unknown t) = t.place
-misfit_place (misfit.Numbered t) = t.place
-misfit_place (misfit.NotAlone t) = t.place
-misfit_place (misfit.Crowded t) = t.place
-misfit_place misfit.NoMemory = 0
+abbrev pub misfit_word : Misfit → Token
+misfit_word (unknown t) = t
+misfit_word (numbered t) = t
+misfit_word (not_alone t) = t
 
 abbrev pub misfit_text : Misfit → Bytes
-misfit_text (misfit.Unknown t) = codes "the source has no assertion " ++ shown_label t.text.now
-misfit_text (misfit.Numbered t) = codes "a rank has no meaning for a source"
-misfit_text (misfit.NotAlone t) = codes "replace * stands beside another command"
-misfit_text (misfit.Crowded t) = codes "over 99 are put at one place"
-misfit_text misfit.NoMemory = codes "no memory"
+misfit_text (unknown t) = codes "the source has no assertion " ++ shown_label t.text
+misfit_text (numbered t) = codes "a rank has no meaning for a source"
+misfit_text (not_alone t) = codes "replace * stands beside another command"
 
 -- that, at that word
 abbrev pub misfit_line : Bytes → Bytes → Misfit → Bytes
-misfit_line path text m = told_at path text (Some (spot_at text (misfit_place m))) (misfit_text m)
-
--- a word of a script doesn't fit the source; those before it fit
-pub record IsMisfitLine (paths : List Bytes) (s : Scope) (texts : List Bytes) (line : Bytes) : Type 0 where
-  pub words : List (List Token)
-  pub are_words : AreWordsOf texts words
-  pub script : ℕ
-  pub before : List (List Token)
-  pub are_spread : AreSpread s (take script words) before
-  pub ts : List Token
-  pub at : slice_get words script ≡ Some ts
-  pub why : Misfit
-  pub unspread : IsUnspread s ts why
-  pub told : why ≢ misfit.NoMemory
-  pub says : line ≡ misfit_line (slice_index_or paths (script + 1) []) (slice_index_or texts script []) why
+misfit_line path text m = told_at path text (Some (spot_at text (misfit_word m).place)) (misfit_text m)
 
 -- a theorem forbids a command of a script, whatever becomes of the others
 abbrev pub barred_text : Token → Bytes → Bytes
@@ -74,13 +42,6 @@ barred_text t by =
 
 abbrev pub barred_line : Bytes → Bytes → Token → Bytes → Bytes
 barred_line path text t by = told_at path text (Some (spot_at text t.place)) (barred_text t by)
-
-pub record IsBarredBy (paths : List Bytes) (s : Scope) (texts : List Bytes) (scripts : List (List Token)) (line : Bytes) : Type 0 where
-  pub script : ℕ
-  pub label : Token
-  pub by : Bytes
-  pub barred : IsBarred s scripts script label by
-  pub says : line ≡ barred_line (slice_index_or paths (script + 1) []) (slice_index_or texts script []) label by
 
 -- the first compressed proof of a script with this path and text that is none at its theorem
 pub record IsPasteFaultLine (path text : Bytes) (m : Map) (t : Tables) (s : Scope) (added : List Assertion) (ts : List Token) (line : Bytes)
@@ -103,6 +64,16 @@ pub record IsUnpastedBy (paths : List Bytes) (s : Scope) (texts : List Bytes) (f
   pub cause : IsPasteFaultLine (slice_index_or paths (script + 1) []) (slice_index_or texts script []) (places_in s flags db) db.prelude s
       added ts line
 
+-- the word that puts too many at one place
+abbrev pub crowded_line : Bytes → Bytes → Token → Bytes
+crowded_line path text t = told_at path text (Some (spot_at text t.place)) (codes "over 99 are put at one place")
+
+pub record IsCrowdedLine (path text : Bytes) (s : Scope) (flags : List Bool) (gaps : List ℕ) (ts : List Token) (line : Bytes)
+    : Type 0 where
+  pub word : Token
+  pub crowded : IsCrowded s flags gaps ts word
+  pub says : line ≡ crowded_line path text word
+
 -- a script puts too many at one place, of a source of which flags say which assertions are taken; those before it don't
 pub record IsCrowdedBy (paths : List Bytes) (s : Scope) (texts : List Bytes) (flags : List Bool) (scripts : List (List Token))
     (line : Bytes) : Type 0 where
@@ -112,10 +83,7 @@ pub record IsCrowdedBy (paths : List Bytes) (s : Scope) (texts : List Bytes) (fl
   pub are_ranked : AreRanked s flags [] (take script scripts) before gaps
   pub ts : List Token
   pub at : slice_get scripts script ≡ Some ts
-  pub why : Misfit
-  pub unranked : IsUnranked s flags gaps ts why
-  pub told : why ≢ misfit.NoMemory
-  pub says : line ≡ misfit_line (slice_index_or paths (script + 1) []) (slice_index_or texts script []) why
+  pub cause : IsCrowdedLine (slice_index_or paths (script + 1) []) (slice_index_or texts script []) s flags gaps ts line
 
 -- scripts have no texts over a library that is taken of the source
 pub record IsCrowdedThen (paths : List Bytes) (s : Scope) (texts : List Bytes) (flags : List Bool) (db : Contents)

@@ -1,21 +1,20 @@
-//! Scripts on the way to those that are run: their words, these by the source, and the text of these with ranks.
+//! Scripts on the way to those that are run: their words by the source, with the proofs of the library that is taken and with its ranks.
 
-ghost use Rattle.std.specs.Prelude.{◌≡◌, ◌⊎◌, ℕ, All, List, [], IfOk, IfErr, length, map};
+ghost use Rattle.std.specs.Prelude.{◌≡◌, ℕ, All, List, [], IfOk, IfErr, length, map};
 ghost use Rattle.std.specs.List.{AllZip};
 ghost use Rattle.mmtext.specs.Text.{Token as Word};
 ghost use Rattle.source.specs.Whole.{IsWhole};
 ghost use Rattle.library.specs.Fitting.{CommandFits};
 ghost use Rattle.checking.specs.Checks.{AreScripts};
-ghost use Rattle.editscripts.specs.Expanded.{AreWordsOf, AreSpread, ArePasted, RankedScript, AreRanked, texts_of};
-ghost use Rattle.editscripts.specs.Expanded.{IsSpreadOf};
-ghost use Rattle.editscripts.specs.Refusals.{IsToldBy, IsWordlessLine, IsMisfitLine, IsUnpastedBy, IsCrowdedBy, IsUnlaidBy, IsUnreadBy};
+ghost use Rattle.editscripts.specs.Expanded.{ArePasted, RankedScript, AreRanked, texts_of};
+ghost use Rattle.editscripts.specs.Refusals.{IsToldBy, IsUnpastedBy, IsCrowdedBy, IsUnlaidBy, IsUnreadBy};
 ghost use Rattle.expanding.specs.Views.{seen_scripts, IsLaid};
 ghost use Rattle.pasting.specs.Views.{IsNarrow};
 ghost use Rattle.editscripts.specs.Views.{seen_texts, AreLaid};
 
-use crate::telling::{misfit, path_at, text_at, unpasted, unread};
+use crate::telling::{crowded, path_at, text_at, unpasted, unread};
 use crate::unedited::Unedited;
-use expanding::{Laid, Ranker, spread, words_in};
+use expanding::{Laid, Ranker};
 use library::Script;
 use mmsyntax::{Database, Prelude};
 use mmtext::{TextFault, Token};
@@ -24,66 +23,6 @@ use scripts::read_script;
 use source::Declared;
 use std::alloc::{AllocError, Global};
 use std::hash::RandomState;
-
-/// The words of scripts that stand outside of comments.
-fn words_of<'a>(
-    alloc: Global,
-    paths: &[&str],
-    texts: &'a [Vec<u8>],
-) -> Result<Vec<Vec<Token<'a>>>, Unedited>
-    ensures words { IfOk result (λ scripts. AreWordsOf (seen_texts texts.now) (seen_scripts scripts.items)) }
-    ensures refused { IfErr result (IsToldBy (IsWordlessLine (map (λ p. p.now) paths.now) (seen_texts texts.now))) }
-{
-    let mut scripts = Vec::new(alloc);
-    for (place, text) in texts.iter().enumerate() {
-        let text = text.as_slice();
-        match words_in(alloc, text) {
-            Ok(words) => scripts.push(words)?,
-            Err(fault) => return Err(unread(alloc, path_at(paths, place + 1), text, fault)?),
-        }
-    }
-    Ok(scripts)
-}
-
-/// The words of scripts by the source, which has done away with the forms that speak of it.
-fn spread_all<'a, D: Declared<'a>>(
-    alloc: Global,
-    paths: &[&str],
-    declared: &D,
-    texts: &[Vec<u8>],
-    scripts: &[Vec<Token<'a>>],
-) -> Result<Vec<Vec<Token<'a>>>, Unedited>
-    requires { AreWordsOf (seen_texts texts.now) (seen_scripts scripts.now) }
-    ensures spread { IfOk result (λ outs. AreSpread (D.scope declared.now) (seen_scripts scripts.now) (seen_scripts outs.items)) }
-    ensures refused { IfErr result (IsToldBy (IsMisfitLine (map (λ p. p.now) paths.now) (D.scope declared.now) (seen_texts texts.now))) }
-{
-    let mut outs = Vec::new(alloc);
-    for (place, words) in scripts.iter().enumerate() {
-        match spread(alloc, declared, words.as_slice()) {
-            Ok(out) => outs.push(out)?,
-            Err(why) => {
-                let (path, text) = (path_at(paths, place + 1), text_at(texts, place));
-                return Err(misfit(alloc, path, text, why)?);
-            }
-        }
-    }
-    Ok(outs)
-}
-
-/// The words of scripts by the source, outside of comments.
-pub fn spread_of<'a, D: Declared<'a>>(
-    alloc: Global,
-    paths: &[&str],
-    declared: &D,
-    texts: &'a [Vec<u8>],
-) -> Result<Vec<Vec<Token<'a>>>, Unedited>
-    ensures spread { IfOk result (λ outs. IsSpreadOf (D.scope declared.now) (seen_texts texts.now) (seen_scripts outs.items)) }
-    ensures refused { IfErr result (IsToldBy (λ line. IsWordlessLine (map (λ p. p.now) paths.now) (seen_texts texts.now) line
-        ⊎ IsMisfitLine (map (λ p. p.now) paths.now) (D.scope declared.now) (seen_texts texts.now) line)) }
-{
-    let words = words_of(alloc, paths, texts)?;
-    spread_all(alloc, paths, declared, texts, words.as_slice())
-}
 
 /// The words of scripts with the proofs of a library that is taken of the source, as flags say of each of its assertions, in the stead of
 /// those that they write in the source's own words.
@@ -181,7 +120,7 @@ fn rank_all<'w, 'a, D: Declared<'a>>(
             Ok(laid) => all.push(laid)?,
             Err(why) => {
                 let (path, text) = (path_at(paths, place + 1), text_at(texts, place));
-                return Err(misfit(alloc, path, text, why)?);
+                return Err(crowded(alloc, path, text, why)?);
             }
         }
     }

@@ -4,25 +4,25 @@ ghost use Rattle.std.specs.Prelude.{◌≡◌, ◌≢◌, ◌++◌, [], codes, I
 ghost use Rattle.mmtext.specs.declared.fault.FaultKind.TheVariants.{NoMemory as OutOfMemory};
 ghost use Rattle.checking.specs.FaultLines.{line_of};
 ghost use Rattle.checking.specs.declared.fault.Fault.TheVariants.{NoMemory as NoMemoryOfRun};
-ghost use Rattle.expanding.specs.declared.misfit.Misfit.TheVariants.{NoMemory as NoMemoryOfMisfit};
 ghost use Rattle.intake.specs.declared.refusal.Refusal.TheVariants.{NoMemory as NoMemoryOfTake};
 ghost use Rattle.locating.specs.Told.{text_line};
 ghost use Rattle.taketext.specs.Refusals.{refusal_line as taking_line};
-ghost use Rattle.std.specs.Prelude.{List};
+ghost use Rattle.std.specs.Prelude.{ℕ, Bool, List};
 ghost use Rattle.mmtext.specs.Text.{Token as Word};
+ghost use Rattle.mmtext.specs.Views.{seen};
 ghost use Rattle.mmsyntax.specs.Tables.{Tables};
 ghost use Rattle.source.specs.Scopes.{Assertion, Scope};
 ghost use Rattle.taking.specs.Names.{Map};
+ghost use Rattle.expanding.specs.Refusals.{IsUnranked};
 ghost use Rattle.pasting.specs.Views.{IsUnpasted};
-ghost use Rattle.editscripts.specs.Refusals.{IsToldBy, IsPasteFaultLine, misfit_line, misfit_place, misfit_text};
+ghost use Rattle.editscripts.specs.Refusals.{IsToldBy, IsPasteFaultLine, IsCrowdedLine, crowded_line};
 
 use crate::unedited::Unedited;
 use checking::Fault;
-use expanding::Misfit;
+use expanding::Unranked;
 use locating::{spot_at, text_line, told_at};
-use mmtext::{FaultKind, TextFault};
+use mmtext::{FaultKind, TextFault, Token};
 use pasting::Unpasted;
-use replylines::shown;
 use std::alloc::{AllocError, Global};
 use taketext::refusal_line as taking_line;
 
@@ -105,49 +105,40 @@ pub(crate) fn unpasted(
     }
 }
 
-/// Why a word of a script doesn't fit a source.
-fn misfit_text(alloc: Global, why: Misfit<'_>) -> Result<String, AllocError>
-    ensures { IfOk result (λ text. string_bytes text ≡ misfit_text why.entry) }
-{
-    match why {
-        Misfit::Unknown(label) => {
-            let label = shown(label.text);
-            format!(in alloc; "the source has no assertion {label}")
-        }
-        Misfit::Numbered(_) => format!(in alloc; "a rank has no meaning for a source"),
-        Misfit::NotAlone(_) => format!(in alloc; "replace * stands beside another command"),
-        Misfit::Crowded(_) => format!(in alloc; "over 99 are put at one place"),
-        Misfit::NoMemory => format!(in alloc; "no memory"),
-    }
-}
-
-/// The byte of the script at which that word stands; for want of memory the first.
-fn misfit_place(why: Misfit<'_>) -> usize
-    ensures { result ≡ misfit_place why.entry }
-{
-    match why {
-        Misfit::Unknown(word)
-        | Misfit::Numbered(word)
-        | Misfit::NotAlone(word)
-        | Misfit::Crowded(word) => word.place,
-        Misfit::NoMemory => 0,
-    }
-}
-
-/// That a word of a script doesn't fit the source.
-pub(crate) fn misfit(
+/// The line of a word that puts too many at one place.
+fn crowded_line(
     alloc: Global,
     path: &str,
     text: &[u8],
-    why: Misfit<'_>,
-) -> Result<Unedited, AllocError>
-    ensures { IfOk result (IsToldBy (λ line. (why.entry ≢ NoMemoryOfMisfit) × (line ≡ misfit_line path.now text.now why.entry))) }
+    word: Token<'_>,
+) -> Result<String, AllocError>
+    ensures { IfOk result (λ line. string_bytes line ≡ crowded_line path.now text.now (seen word.entry)) }
 {
-    if let Misfit::NoMemory = why {
-        return Ok(Unedited::NoMemory);
+    let spot = spot_at(text, word.place);
+    told_at(
+        alloc,
+        path,
+        text,
+        Some(spot),
+        "over 99 are put at one place",
+    )
+}
+
+/// That a script at a path puts too many at one place.
+pub(crate) fn crowded(
+    alloc: Global,
+    path: &str,
+    text: &[u8],
+    why: Unranked<'_>,
+) -> Result<Unedited, AllocError>
+    ensures { (s : Scope) (flags : List Bool) (gaps : List ℕ) (ts : List Word) → IsUnranked s flags gaps ts why.entry
+        → IfOk result (IsToldBy (IsCrowdedLine path.now text.now s flags gaps ts)) }
+{
+    match why {
+        Unranked::NoMemory => Ok(Unedited::NoMemory),
+        Unranked::Crowded(word) => {
+            let line = crowded_line(alloc, path, text, word)?;
+            Ok(Unedited::Refused(line))
+        }
     }
-    let spot = spot_at(text, misfit_place(why));
-    let said = misfit_text(alloc, why)?;
-    let line = told_at(alloc, path, text, Some(spot), said.as_str())?;
-    Ok(Unedited::Refused(line))
 }

@@ -3,7 +3,7 @@ use Rattle.std.proofs.Common.{◌≡◌, ◌∙◌, ℕ, suc, ◌+◌, List, [],
 use Rattle.std.proofs.Common.{refl, sym, ap, ap₂, subst, arith, append_assoc}
 use Rattle.std.proofs.lemmas.List.{map-append, append-nil}
 use Rattle.mmtext.specs.Text.{Token}
-use Rattle.expanding.specs.Forms.{behind_word, Part, AreParts}
+use Rattle.spreading.specs.Forms.{behind_word, Part, AreParts}
 use Rattle.expanding.specs.Commands.{Command, command_of, AreCommands}
 
 -- ---- one way

@@ -7,9 +7,9 @@ use Rattle.std.proofs.lemmas.List.{length-map, drop-map, take-map}
 use Rattle.mmtext.specs.Words.{Word}
 use Rattle.mmtext.specs.Views.{seen}
 use Rattle.mmtext.specs.declared.token.Token.{Token as CodeToken}
-use Rattle.expanding.specs.Words.{says}
+use Rattle.spreading.specs.Words.{says}
 use Rattle.expanding.specs.Cuts.{cut_at, cut_behind, cut_of}
-use Rattle.expanding.proofs.Counted.{is_word}
+use Rattle.spreading.proofs.Counted.{is_word}
 
 -- ---- places of words
 

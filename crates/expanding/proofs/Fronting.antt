@@ -16,7 +16,7 @@ use Rattle.std.proofs.lemmas.List.Folds.{find-append}
 use Rattle.mmtext.specs.Text.{Token}
 use Rattle.mmtext.specs.Views.{seen}
 use Rattle.mmtext.specs.declared.token.Token.{Token as CodeToken}
-use Rattle.expanding.specs.Forms.{Part}
+use Rattle.spreading.specs.Forms.{Part}
 use Rattle.expanding.specs.Descriptions.{Front, front_at, fronts_behind, opened_at, closed_at, is_assertion_mark, label_in}
 use Rattle.expanding.specs.Descriptions.{Description, description_of, listed, begun_behind, descriptions_behind}
 use Rattle.expanding.specs.InFront.{looks_up, FindsFronts, seen_described}

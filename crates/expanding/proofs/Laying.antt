@@ -7,7 +7,7 @@ use Rattle.std.proofs.lemmas.List.{length-append}
 use Rattle.std.proofs.Math.Seq.{take-append_seam, drop-append_seam}
 use Rattle.std.specs.Prelude.{nat_le}
 use Rattle.mmtext.specs.Text.{Token}
-use Rattle.expanding.specs.Words.{text_of, place_at}
+use Rattle.spreading.specs.Words.{text_of, place_at}
 use Rattle.expanding.specs.Views.{stretch_of, seen_stretches}
 use Rattle.expanding.specs.declared.laid.Stretch.{Stretch}
 

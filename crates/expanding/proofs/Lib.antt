@@ -1,8 +1,4 @@
-pub mod Counted
-pub mod Parted
 pub mod Laying
-pub mod Citing
-pub mod PartByPart
 pub mod Fronts
 pub mod Gaps
 pub mod PartsRanked
@@ -12,6 +8,7 @@ pub mod Commanding
 pub mod Looking
 pub mod Barring
 pub mod Gathered
+pub mod Moving
 pub mod Fronting
 pub mod Cutting
 pub mod Renaming

@@ -11,7 +11,7 @@ use Rattle.source.specs.Statements.{Proof}
 use Rattle.source.specs.Scopes.{is_in}
 use Rattle.source.specs.Whole.{labels_in}
 use Rattle.giving.specs.Staying.{Change}
-use Rattle.expanding.specs.Spreading.{cites}
+use Rattle.spreading.specs.Spreading.{cites}
 use Rattle.expanding.specs.Bars.{holds, names_any}
 
 -- ---- pairs of labels with themselves

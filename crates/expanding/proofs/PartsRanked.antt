@@ -7,14 +7,14 @@ use Rattle.std.proofs.lemmas.List.Elements.{filter_map-append}
 use Rattle.mmtext.specs.Text.{Token}
 use Rattle.mmtext.specs.Views.{seen}
 use Rattle.source.specs.Scopes.{Scope}
-use Rattle.expanding.specs.Forms.{Part, AreParts, words_before_place, beginning_of}
+use Rattle.spreading.specs.Forms.{Part, AreParts, words_before_place, beginning_of}
 use Rattle.expanding.specs.Ranking.{gap_of, gaps_of, ranked, ranked_part, crowded_behind, first_crowded, or_later, IsRanked, IsCrowded}
 use Rattle.expanding.specs.Refusals.{IsUnranked}
 use Rattle.expanding.specs.Views.{IsLaid, IsRanker, IsRankerOf, IsTooMany, with_gap, with_beginning}
 use Rattle.expanding.specs.declared.laid.Laid.{Laid}
 use Rattle.expanding.specs.declared.ranking.Ranker.{Ranker}
-use Rattle.expanding.specs.declared.misfit.Misfit.{Misfit}
-use Rattle.expanding.specs.declared.misfit.Misfit.TheVariants as misfit
+use Rattle.expanding.specs.declared.unranked.Unranked.{Unranked}
+use Rattle.expanding.specs.declared.unranked.Unranked.TheVariants as reason
 
 -- one more, if there is one
 gaps_more : (E : List ℕ) (o : Option ℕ) → E ++ cons_option o [] ≡ with_gap E o
@@ -123,9 +123,6 @@ module _ (s : Scope) (flags : List Bool) (earlier : List ℕ) (ts : List Token) 
       first = one_more ps ∙ ap (λ o. or_later o (first_crowded s flags (before ++ gaps_of s flags (p ∷ [])) ps)) is;
     }
 
-    pub unranked : (ps : List Part) → AreParts behind ps → (m : Misfit) → IsTooMany too_many m → IsUnranked s flags earlier ts m
-    unranked ps parts (misfit.Crowded t) is = stops ps parts (seen t) is
-    unranked ps parts misfit.NoMemory is = tt
-    unranked ps parts (misfit.Unknown t) is = is
-    unranked ps parts (misfit.Numbered t) is = is
-    unranked ps parts (misfit.NotAlone t) is = is
+    pub unranked : (ps : List Part) → AreParts behind ps → (m : Unranked) → IsTooMany too_many m → IsUnranked s flags earlier ts m
+    unranked ps parts (reason.Crowded t) is = stops ps parts (seen t) is
+    unranked ps parts reason.NoMemory is = tt

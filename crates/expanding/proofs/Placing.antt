@@ -10,11 +10,12 @@ use Rattle.std.proofs.lemmas.List.{append-nil}
 use Rattle.std.proofs.lemmas.Bool.{lt-ltb, le-ltb}
 use Rattle.mmtext.specs.Text.{Token}
 use Rattle.source.specs.Scopes.{Scope}
-use Rattle.expanding.specs.Words.{says, word_at}
-use Rattle.expanding.specs.Forms.{Part, is_beside, placed_at}
-use Rattle.expanding.specs.Spreading.{assertion_at}
+use Rattle.spreading.specs.Words.{says, word_at}
+use Rattle.spreading.specs.Forms.{Part, is_beside, placed_at}
+use Rattle.spreading.specs.Spreading.{assertion_at}
 use Rattle.expanding.specs.Ranking.{gap_of_place, gap_behind, taken_among, crowded_at, crowded_behind, ranked_place, ranked_words, rank_at, many_at, most_beside}
-use Rattle.expanding.specs.Views.{front_words, place_words, IsRankerOf, IsGiven}
+use Rattle.expanding.specs.Views.{IsRankerOf, IsGiven}
+use Rattle.spreading.specs.Views.{front_words, place_words}
 use Rattle.expanding.specs.declared.ranking.Ranker.{Ranker}
 use Rattle.mmtext.specs.declared.token.Token.{Token as CodeToken}
 use Rattle.mmsyntax.proofs.FirstPlace.{place_within}

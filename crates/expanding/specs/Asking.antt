@@ -6,7 +6,7 @@ use Rattle.std.specs.Str.{bytes_eq}
 use Rattle.mmtext.specs.Text.{Token}
 use Rattle.mmtext.specs.Words.{Word}
 use Rattle.source.specs.Scopes.{Scope, is_in}
-use Rattle.expanding.specs.Spreading.{assertion_at}
+use Rattle.spreading.specs.Spreading.{assertion_at}
 
 -- a command by which an assertion gets another proof or another place, or goes
 abbrev pub asks_for_proof : Word → Bool

@@ -7,10 +7,10 @@ use Rattle.std.specs.List.{flat_map}
 use Rattle.mmtext.specs.Text.{Token}
 use Rattle.mmtext.specs.Words.{Word}
 use Rattle.source.specs.Scopes.{Assertion, Scope, is_in}
-use Rattle.expanding.specs.Words.{says}
-use Rattle.expanding.specs.Forms.{Part, begins_with}
+use Rattle.spreading.specs.Words.{says}
+use Rattle.spreading.specs.Forms.{Part, begins_with}
 use Rattle.expanding.specs.Asking.{spoken_in, asked}
-use Rattle.expanding.specs.Spreading.{assertion_at, cites}
+use Rattle.spreading.specs.Spreading.{assertion_at, cites}
 use Rattle.expanding.specs.Commands.{Command, command_of, AreCommands}
 
 -- ---- commands
@@ -92,3 +92,20 @@ pub record IsBarred (s : Scope) (scripts : List (List Token)) (script : ℕ) (la
   pub place : ℕ
   pub held : Holds s scripts place by label.text
   pub forbidden : IsDeletion s commands part label ⊎ IsMoveBehind s scripts commands part label place
+
+-- ---- all that they forbid
+
+-- a command of a script, from 0, that names a label, and the label of a theorem that forbids it
+pub record Barred : Type 0 where
+  pub script : ℕ
+  pub label : Token
+  pub by : Word
+
+abbrev pub barred_by : ℕ → Token → Word → Barred
+barred_by script label by = record { script = script; label = label; by = by }
+
+-- all commands of scripts that theorems forbid, each with one that does
+pub record AreAllBarred (s : Scope) (scripts : List (List Token)) (found : List Barred) : Type 0 where
+  pub sound : (b : Barred) → Contains found b → IsBarred s scripts b.script b.label b.by
+  pub complete : (script : ℕ) (label : Token) (by : Word) → IsBarred s scripts script label by
+      → (other : Word) × Contains found (barred_by script label other)

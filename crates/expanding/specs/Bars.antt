@@ -1,5 +1,5 @@
 -- Of the code's inside, apart from the rules: commands that a theorem may forbid, each with where such a theorem stands.
-use Rattle.std.specs.Prelude.{◌≡◌, ℕ, Bool, true, false, ◌&&◌, ◌||◌, ◌==◌, nat_lt, nat_le, List, map, filter, filter_map, find, length, slice_get}
+use Rattle.std.specs.Prelude.{◌≡◌, ℕ, Bool, true, false, ◌&&◌, ◌||◌, ◌==◌, nat_lt, nat_le, List, [], ◌∷◌, map, filter, filter_map, find, length, slice_get, codes}
 use Rattle.std.specs.Prelude.{Option, Some, None, is_some, is_none, if◌then◌else◌}
 use Rattle.std.specs.List.{list_any}
 use Rattle.std.specs.Option.{option_map, option_and_then}
@@ -13,8 +13,9 @@ use Rattle.source.specs.Statements.{Proof}
 use Rattle.source.specs.Scopes.{Scope, is_in}
 use Rattle.source.specs.Whole.{labels_in}
 use Rattle.giving.specs.Staying.{Change}
-use Rattle.expanding.specs.Forms.{Part}
-use Rattle.expanding.specs.Spreading.{assertion_at, cites}
+use Rattle.spreading.specs.Words.{says}
+use Rattle.spreading.specs.Forms.{Part}
+use Rattle.spreading.specs.Spreading.{assertion_at, cites}
 use Rattle.expanding.specs.Commands.{Command, command_of}
 use Rattle.expanding.specs.Barred.{delete_of, move_of, moves, is_renamed, is_deleted}
 use Rattle.expanding.specs.declared.commands.Command.{Command as CodeCommand}
@@ -31,6 +32,15 @@ seen_command c = command_of c.script (map seen c.words.now)
 -- changes are looked up here for their labels alone
 abbrev pub holds : List Change → Word → Bool
 holds cs w = is_some (option_map (λ c. c.1) (find (λ c. bytes_eq w c.0) cs))
+
+-- the label of the assertion that a command moves, twice
+abbrev pub moved_by : Part → Option (Word × Word)
+moved_by (verb ∷ label ∷ rest) = if says verb (codes "move") then Some (label.text, label.text) else None
+moved_by _ = None
+
+-- those of all commands: a label is led to itself as often as they move it
+abbrev pub moved_in : List Command → List (Word × Word)
+moved_in cs = filter_map (λ c. moved_by c.words) cs
 
 -- labels that are looked up are those of whose proofs or places scripts ask for, and the words of `rename` and `delete`
 pub record IsSaid (asked : List Word) (cs : List Command) (said : Said) : Type 0 where

@@ -4,8 +4,8 @@
 use Rattle.std.specs.Prelude.{◌≡◌, ◌≢◌, Bool, true, false, List, [], ◌∷◌, filter, filter_map, map, Contains, IsTrue, Option, Some, None, if◌then◌else◌, codes}
 use Rattle.std.specs.Str.{bytes_eq}
 use Rattle.mmtext.specs.Words.{Word}
-use Rattle.expanding.specs.Words.{says}
-use Rattle.expanding.specs.Forms.{Part}
+use Rattle.spreading.specs.Words.{says}
+use Rattle.spreading.specs.Forms.{Part}
 use Rattle.expanding.specs.Commands.{Command}
 
 -- ---- renames

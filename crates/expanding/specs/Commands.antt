@@ -1,7 +1,7 @@
 -- The commands of scripts, each with the number of its script.
 use Rattle.std.specs.Prelude.{◌≡◌, ℕ, suc, List, [], ◌∷◌, ◌++◌, map}
 use Rattle.mmtext.specs.Text.{Token}
-use Rattle.expanding.specs.Forms.{Part, AreParts}
+use Rattle.spreading.specs.Forms.{Part, AreParts}
 
 -- a part, and its script, from 0
 pub record Command : Type 0 where

@@ -1,8 +1,8 @@
 -- The proof that a command brings: between its first `$=` and the first `$.` behind that (Metamath book, section 4.2.8).
 use Rattle.std.specs.Prelude.{ℕ, suc, List, [], take, drop, position, Option, Some, None, codes}
 use Rattle.mmtext.specs.Text.{Token}
-use Rattle.expanding.specs.Words.{says}
-use Rattle.expanding.specs.Forms.{Part}
+use Rattle.spreading.specs.Words.{says}
+use Rattle.spreading.specs.Forms.{Part}
 
 -- the words up to the `$=`, with it; those of the proof; and those from the `$.` on
 pub record Cut : Type 0 where

@@ -3,8 +3,8 @@ use Rattle.std.specs.Prelude.{◌≡◌, ℕ, suc, Bool, ◌+◌, ◌-◌, ◌||
 use Rattle.std.specs.Option.{option_map}
 use Rattle.mmtext.specs.Text.{Token, tokens}
 use Rattle.mmtext.specs.Words.{Word}
-use Rattle.expanding.specs.Words.{says}
-use Rattle.expanding.specs.Forms.{Part, AreParts, begins_with, place_length}
+use Rattle.spreading.specs.Words.{says}
+use Rattle.spreading.specs.Forms.{Part, AreParts, begins_with, place_length}
 
 -- ---- comments
 

@@ -9,10 +9,10 @@ use Rattle.mmtext.specs.Text.{Token}
 use Rattle.mmtext.specs.Words.{Word}
 use Rattle.source.specs.Statements.{Proof}
 use Rattle.source.specs.Scopes.{Scope, is_in}
-use Rattle.expanding.specs.Words.{says}
-use Rattle.expanding.specs.Forms.{Part, begins_with}
+use Rattle.spreading.specs.Words.{says}
+use Rattle.spreading.specs.Forms.{Part, begins_with}
 use Rattle.expanding.specs.Cuts.{brought}
-use Rattle.expanding.specs.Spreading.{assertion_at, cites}
+use Rattle.spreading.specs.Spreading.{assertion_at, cites}
 use Rattle.expanding.specs.Descriptions.{unit_of, label_in}
 use Rattle.expanding.specs.Commands.{Command, AreCommands}
 use Rattle.expanding.specs.Called.{renames, Bearers, nobody, only, AreBearers, is_borne}
@@ -100,18 +100,18 @@ abbrev pub discouraged_in : Scope → Names → Part → Option Discouraged
 discouraged_in s n p =
     or_used (modified n (reproved_by p)) (option_map uses (find (is_new_usage s n (theorem_of n (reproved_by p))) (citing_words p)))
 
--- that of the first command that does, with the number of its script, from 0
-abbrev pub told_of : Scope → Names → Option Command → Option (ℕ × Discouraged)
-told_of s n None = None
-told_of s n (Some c) = option_map (λ d. (c.script, d)) (discouraged_in s n c.words)
+-- what a command does first, with the number of its script, from 0
+abbrev pub told_of : Scope → Names → Command → Option (ℕ × Discouraged)
+told_of s n c = option_map (λ d. (c.script, d)) (discouraged_in s n c.words)
 
-abbrev pub first_discouraged : Scope → Names → List Command → Option (ℕ × Discouraged)
-first_discouraged s n cs = told_of s n (find (λ c. is_some (discouraged_in s n c.words)) cs)
+-- that of each command that does, in order
+abbrev pub all_discouraged : Scope → Names → List Command → List (ℕ × Discouraged)
+all_discouraged s n cs = filter_map (told_of s n) cs
 
--- scripts do so first, if they do
-pub record AreDiscouraged (s : Scope) (r : Remarked) (scripts : List (List Token)) (found : Option (ℕ × Discouraged)) : Type 0 where
+-- scripts do this so: each command of theirs that does, with what it does first
+pub record AreDiscouraged (s : Scope) (r : Remarked) (scripts : List (List Token)) (found : List (ℕ × Discouraged)) : Type 0 where
   pub commands : List Command
   pub are_commands : AreCommands 0 scripts commands
   pub names : Names
   pub are_names : AreNames s r commands names
-  pub first : first_discouraged s names commands ≡ found
+  pub all : all_discouraged s names commands ≡ found

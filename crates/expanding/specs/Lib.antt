@@ -1,6 +1,3 @@
-pub mod Words
-pub mod Forms
-pub mod Spreading
 pub mod Asking
 pub mod Ranking
 pub mod Refusals

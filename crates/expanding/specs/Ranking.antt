@@ -6,9 +6,9 @@ use Rattle.std.specs.Option.{option_map}
 use Rattle.std.specs.Fmt.{decimal}
 use Rattle.mmtext.specs.Text.{Token}
 use Rattle.source.specs.Scopes.{Scope}
-use Rattle.expanding.specs.Words.{says, word_at}
-use Rattle.expanding.specs.Forms.{is_beside, Part, AreParts, words_before_place, placed_at, beginning_of}
-use Rattle.expanding.specs.Spreading.{assertion_at}
+use Rattle.spreading.specs.Words.{says, word_at}
+use Rattle.spreading.specs.Forms.{is_beside, Part, AreParts, words_before_place, placed_at, beginning_of}
+use Rattle.spreading.specs.Spreading.{assertion_at}
 
 -- the most that scripts may put at one place
 abbrev pub most_beside : ℕ

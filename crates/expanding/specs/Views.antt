@@ -4,14 +4,13 @@ use Rattle.std.specs.Prelude.{Vec}
 use Rattle.std.specs.declared.alloc.Global.{Global}
 use Rattle.mmtext.specs.Text.{Token}
 use Rattle.mmtext.specs.declared.token.Token.{Token as CodeToken}
-use Rattle.expanding.specs.Words.{text_of}
-use Rattle.expanding.specs.Forms.{Part}
+use Rattle.spreading.specs.Words.{text_of}
+use Rattle.spreading.specs.Forms.{Part}
 use Rattle.expanding.specs.Ranking.{taken_among, many_at, rank_at, most_beside}
 use Rattle.expanding.specs.declared.laid.Stretch.{Stretch}
 use Rattle.expanding.specs.declared.laid.Laid.{Laid}
 use Rattle.expanding.specs.declared.ranking.Ranker.{Ranker}
 use Rattle.mmtext.specs.Views.{seen}
-use Rattle.expanding.specs.Spreading.{Star, Misfit, unknown, numbered, not_alone, cites}
 use Rattle.expanding.specs.Cuts.{Cut}
 use Rattle.expanding.specs.Discouraged.{Discouraged, modifies, uses}
 use Rattle.expanding.specs.declared.cuts.Cut.{Cut as CodeCut}
@@ -19,9 +18,8 @@ use Rattle.expanding.specs.declared.discouraged.Discouraged.{Discouraged as Code
 use Rattle.expanding.specs.declared.discouraged.Discouraged.TheVariants as code
 use Rattle.mmtext.specs.Words.{Word}
 use Rattle.source.specs.Scopes.{Assertion, Scope}
-use Rattle.expanding.specs.declared.star.Star.{Star as CodeStar}
-use Rattle.expanding.specs.declared.misfit.Misfit.{Misfit as CodeMisfit}
-use Rattle.expanding.specs.declared.misfit.Misfit.TheVariants as misfit
+use Rattle.expanding.specs.declared.unranked.Unranked.{Unranked}
+use Rattle.expanding.specs.declared.unranked.Unranked.TheVariants as unranked
 
 -- a word's length and place
 abbrev pub stretch_of : Token → ℕ × ℕ
@@ -71,36 +69,10 @@ abbrev pub with_beginning : List ℕ → Option ℕ → List ℕ
 with_beginning places None = places
 with_beginning places (Some place) = places ++ place ∷ []
 
--- the words of a part in front of those that say where something is put, and these with what is behind them
-abbrev pub front_words : Option ℕ → Part → List Token
-front_words None p = p
-front_words (Some n) p = take n p
-
-abbrev pub place_words : Option ℕ → Part → List Token
-place_words None p = []
-place_words (Some n) p = drop n p
-
--- what the code tells of what can't be in one part
-abbrev pub IsMisfit : Option Misfit → CodeMisfit → Type 0
-IsMisfit m (misfit.Unknown t) = m ≡ Some (unknown (seen t))
-IsMisfit m (misfit.Numbered t) = m ≡ Some (numbered (seen t))
-IsMisfit m (misfit.NotAlone t) = m ≡ Some (not_alone (seen t))
-IsMisfit m (misfit.Crowded t) = ⊥
-IsMisfit m misfit.NoMemory = Unit {0}
-
--- the words of `replace *`
-abbrev pub seen_star : CodeStar → Star
-seen_star x = record { verb = seen x.verb; star = seen x.star; old = seen x.old; new = seen x.new }
-
--- the label of an assertion whose proof names another
-abbrev pub citer : Word → Assertion → Option Word
-citer w a = if cites w a.proof then Some a.label else None
-
 -- what it tells where no more may be put
-abbrev pub IsTooMany : Option Token → CodeMisfit → Type 0
-IsTooMany o (misfit.Crowded t) = o ≡ Some (seen t)
-IsTooMany o misfit.NoMemory = Unit {0}
-IsTooMany o _ = ⊥
+abbrev pub IsTooMany : Option Token → Unranked → Type 0
+IsTooMany o (unranked.Crowded t) = o ≡ Some (seen t)
+IsTooMany o unranked.NoMemory = Unit {0}
 
 -- the words of scripts
 abbrev pub seen_scripts : List (Vec CodeToken Global) → List (List Token)

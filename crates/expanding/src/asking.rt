@@ -4,7 +4,7 @@ ghost use Rattle.std.specs.Prelude.{◌≡◌, ◌++◌, IfOk, IsTrue, OnOk, map
 ghost use Rattle.mmtext.specs.Views.{seen};
 ghost use Rattle.source.specs.Views.{seen_words};
 ghost use Rattle.expanding.specs.Asking.{asks_for_proof, is_behind, words_behind, label_behind, labels_behind, spoken_in, spoken, asked};
-ghost use Rattle.expanding.specs.Spreading.{assertion_at};
+ghost use Rattle.spreading.specs.Spreading.{assertion_at};
 ghost use Rattle.expanding.specs.Views.{seen_scripts};
 
 use mmtext::Token;

@@ -1,26 +1,26 @@
 //! A `delete` or a `move` that a theorem of the source forbids, which no script gives another proof or another place.
 
-ghost use Rattle.std.specs.Prelude.{◌≡◌, ℕ, IfOk, IfNone, IfSome, List, find, map};
+ghost use Rattle.std.specs.Prelude.{◌≡◌, ℕ, IfOk, List, map};
 ghost use Rattle.std.specs.List.{list_any};
 ghost use Rattle.std.specs.Option.{option_map};
-ghost use Rattle.mmtext.specs.Text.{Token as TokenSeen};
 ghost use Rattle.mmtext.specs.Views.{seen};
 ghost use Rattle.mmtext.specs.Words.{Word};
 ghost use Rattle.source.specs.Views.{seen_words};
-ghost use Rattle.expanding.specs.Barred.{IsBarred};
+ghost use Rattle.expanding.specs.Barred.{AreAllBarred};
 ghost use Rattle.expanding.specs.Commands.{Command as CommandSeen};
-ghost use Rattle.expanding.specs.Bars.{seen_command, seen_bar, holds, names_any, proof_at, bars_there};
-ghost use Rattle.expanding.specs.Watches.{seen_barred, label_of, barred_at, IsWatch, IsBarredSomewhere, IsBarredNowhere};
+ghost use Rattle.expanding.specs.Bars.{seen_command, seen_bar, holds, names_any, proof_at};
+ghost use Rattle.expanding.specs.Watches.{seen_barred, label_of, is_watched, barred_there, first_barred, all_barred, IsWatch, AreWatched, AreBarred};
 ghost use Rattle.expanding.specs.Views.{seen_scripts};
 
 use crate::asking::asked_of;
-use crate::bars::{Bar, Said, bars_of, bars_there, said_of};
+use crate::bars::{Bar, Said, bars_of, bars_there, moves_of, said_of};
 use crate::commands::{Command, commands_of};
 use crate::labels::{holds, label_set};
-use crate::spreading::labels_in;
+use crate::renamed::Renames;
 use giving::LabelMap;
 use mmtext::Token;
 use source::Declared;
+use spreading::labels_in;
 use std::alloc::{AllocError, Global};
 use std::hash::RandomState;
 
@@ -55,37 +55,39 @@ fn names_one(labels: &LabelMap<'_>, cited: &[&[u8]]) -> bool
 
 /// The commands that a theorem may forbid, and what tells whether it does.
 #[derive(Drop)]
-struct Watch<'w, 'a> {
-    commands: Vec<Command<'w, 'a>>,
+struct Watch<'a> {
     said: Said<'a>,
     bars: Vec<Bar<'a>>,
     /// The labels that these name.
     labels: LabelMap<'a>,
+    /// Which labels all commands move.
+    moved: Renames<'a>,
 }
 
 /// The commands that a theorem may forbid, by all commands and the labels of those whose proofs or places these ask for.
-fn watch_of<'w, 'a, D: Declared<'a>>(
+fn watch_of<'a, D: Declared<'a>>(
     alloc: Global,
     keys: RandomState,
     declared: &D,
     asked: &[&'a [u8]],
-    commands: Vec<Command<'w, 'a>>,
-) -> Result<Watch<'w, 'a>, AllocError>
-    ensures { IfOk result (IsWatch (D.scope declared.now) (seen_words asked.now) (map seen_command commands.entry.items)) }
+    commands: &[Command<'_, 'a>],
+) -> Result<Watch<'a>, AllocError>
+    ensures { IfOk result (IsWatch (D.scope declared.now) (seen_words asked.now) (map seen_command commands.now)) }
 {
-    let said = said_of(alloc, keys, asked, commands.as_slice())?;
-    let bars = bars_of(alloc, declared, &said, commands.as_slice())?;
+    let said = said_of(alloc, keys, asked, commands)?;
+    let bars = bars_of(alloc, declared, &said, commands)?;
     let named = labels_in_bars(alloc, bars.as_slice())?;
     let labels = label_set(alloc, keys, named.as_slice())?;
+    let moved = moves_of(alloc, keys, commands)?;
     Ok(Watch {
-        commands,
         said,
         bars,
         labels,
+        moved,
     })
 }
 
-impl<'w, 'a> Watch<'w, 'a> {
+impl<'a> Watch<'a> {
     /// Whether the proof of the assertion at a place names a label that a command names.
     fn is_near<'d, D: Declared<'d>>(&self, declared: &D, place: usize) -> bool
         ensures { result ≡ names_any (holds self.now.labels) (proof_at (D.scope declared.now) place) }
@@ -96,32 +98,55 @@ impl<'w, 'a> Watch<'w, 'a> {
         }
     }
 
-    /// The first command that the theorem at a place forbids, if no script asks for its proof.
-    fn bar_at<'d, D: Declared<'d>>(&self, declared: &D, place: usize) -> Option<Bar<'a>>
-        ensures { option_map seen_bar result ≡ find
-            (bars_there (D.scope declared.now) (map seen_command self.now.commands.items) place) (map seen_bar self.now.bars.items) }
-    {
-        for bar in self.bars.as_slice() {
-            if bars_there(declared, self.commands.as_slice(), place, *bar) {
-                return Some(*bar);
-            }
-        }
-        None
-    }
-
-    /// The first command that the theorem at a place forbids.
-    fn barred_at<D: Declared<'a>>(&self, declared: &D, place: usize) -> Option<Barred<'a>>
+    /// Whether the theorem at a place may forbid a command: no script asks for its proof, which names a label that a command names.
+    fn is_watched<'d, D: Declared<'d>>(&self, declared: &D, place: usize) -> bool
         ensures { (asked : List Word) (cs : List CommandSeen) → IsWatch (D.scope declared.now) asked cs self.now
-            → option_map seen_barred result ≡ barred_at (D.scope declared.now) asked cs place }
+            → result ≡ is_watched (D.scope declared.now) asked (holds self.now.labels) place }
     {
         if !self.is_near(declared, place) {
+            return false;
+        }
+        match declared.label(place) {
+            None => false,
+            Some(label) => !holds(&self.said.asked, label),
+        }
+    }
+
+    /// The places of the theorems that may.
+    fn watched<'d, D: Declared<'d>>(
+        &self,
+        alloc: Global,
+        declared: &D,
+    ) -> Result<Vec<usize>, AllocError>
+        ensures { (asked : List Word) (cs : List CommandSeen) → IsWatch (D.scope declared.now) asked cs self.now
+            → IfOk result (λ places. AreWatched (D.scope declared.now) asked (holds self.now.labels) places.items) }
+    {
+        let mut places = Vec::new(alloc);
+        for place in 0..declared.assertions() {
+            if self.is_watched(declared, place) {
+                places.push(place)?;
+            }
+        }
+        Ok(places)
+    }
+
+    /// A command with the theorem at a place, if that forbids it.
+    fn barred_there<D: Declared<'a>>(
+        &self,
+        declared: &D,
+        bar: Bar<'a>,
+        place: usize,
+    ) -> Option<Barred<'a>>
+        ensures { (asked : List Word) (cs : List CommandSeen) → IsWatch (D.scope declared.now) asked cs self.now
+            → option_map seen_barred result ≡ barred_there (D.scope declared.now) asked cs (seen_bar bar.entry) place }
+    {
+        if !bars_there(declared, &self.moved, place, bar) {
             return None;
         }
         let by = declared.label(place)?;
         if holds(&self.said.asked, by) {
             return None;
         }
-        let bar = self.bar_at(declared, place)?;
         Some(Barred {
             script: bar.script,
             word: bar.label,
@@ -129,31 +154,67 @@ impl<'w, 'a> Watch<'w, 'a> {
         })
     }
 
-    /// A command that a theorem forbids, if there is one: the first theorem's first.
-    fn first_barred<D: Declared<'a>>(&self, declared: &D) -> Option<Barred<'a>>
-        ensures some { (asked : List Word) (cs : List CommandSeen) → IsWatch (D.scope declared.now) asked cs self.now
-            → IfSome result (λ b. IsBarredSomewhere (D.scope declared.now) asked cs (seen_barred b)) }
-        ensures none { (asked : List Word) (cs : List CommandSeen) → IsWatch (D.scope declared.now) asked cs self.now
-            → IfNone result (IsBarredNowhere (D.scope declared.now) asked cs) }
+    /// A command with the first of some theorems, by their places, that forbids it.
+    fn first_barred<D: Declared<'a>>(
+        &self,
+        declared: &D,
+        places: &[usize],
+        bar: Bar<'a>,
+    ) -> Option<Barred<'a>>
+        ensures { (asked : List Word) (cs : List CommandSeen) → IsWatch (D.scope declared.now) asked cs self.now
+            → option_map seen_barred result ≡ first_barred (D.scope declared.now) asked cs places.now (seen_bar bar.entry) }
     {
-        if self.bars.is_empty() {
-            return None;
-        }
-        for place in 0..declared.assertions() {
-            if let Some(barred) = self.barred_at(declared, place) {
+        for place in places {
+            if let Some(barred) = self.barred_there(declared, bar, *place) {
                 return Some(barred);
             }
         }
         None
     }
+
+    /// All commands that some theorems forbid, each with the first of these that does.
+    fn barred_among<D: Declared<'a>>(
+        &self,
+        alloc: Global,
+        declared: &D,
+        places: &[usize],
+    ) -> Result<Vec<Barred<'a>>, AllocError>
+        ensures { (asked : List Word) (cs : List CommandSeen) → IsWatch (D.scope declared.now) asked cs self.now
+            → IfOk result (λ all. map seen_barred all.items
+            ≡ all_barred (D.scope declared.now) asked cs places.now (map seen_bar self.now.bars.items)) }
+    {
+        let mut all = Vec::new(alloc);
+        for bar in self.bars.as_slice() {
+            if let Some(barred) = self.first_barred(declared, places, *bar) {
+                all.push(barred)?;
+            }
+        }
+        Ok(all)
+    }
+
+    /// All commands that theorems forbid, each with the first that does.
+    fn all_barred<D: Declared<'a>>(
+        &self,
+        alloc: Global,
+        declared: &D,
+    ) -> Result<Vec<Barred<'a>>, AllocError>
+        ensures { (asked : List Word) (cs : List CommandSeen) → IsWatch (D.scope declared.now) asked cs self.now
+            → IfOk result (λ all. AreBarred (D.scope declared.now) asked cs (map seen_barred all.items)) }
+    {
+        if self.bars.is_empty() {
+            return Ok(Vec::new(alloc));
+        }
+        let places = self.watched(alloc, declared)?;
+        self.barred_among(alloc, declared, places.as_slice())
+    }
 }
 
-/// A `delete` or `move L behind M` that a theorem of the source forbids, if there is one: one that no script gives another proof or another
-/// place, and that cites what is deleted; or that cites L, stands behind L, and doesn't stand behind M. The first such theorem is told,
-/// with the first command that it forbids.
+/// Each `delete` or `move L behind M` that a theorem of the source forbids, in order: one that no script gives another proof or another
+/// place, and that cites what is deleted; or that cites L, stands behind L, and doesn't stand behind M. The first such theorem is told.
 ///
 /// The scripts are the words behind `spread`. The proofs of the source are gone through once, with a look-up for each label that they
-/// name, and not at all where no script deletes an assertion or moves one behind another.
+/// name, and not at all where no script deletes an assertion or moves one behind another. Then each such command goes through the theorems
+/// that cite what one of them names and that no script asks for, up to the first that forbids it.
 ///
 /// # Errors
 ///
@@ -163,14 +224,17 @@ pub fn barred_of<'a, D: Declared<'a>>(
     keys: RandomState,
     declared: &D,
     scripts: &[Vec<Token<'a>>],
-) -> Result<Option<Barred<'a>>, AllocError>
-    ensures some { IfOk result (λ found. IfSome found (λ b.
-        IsBarred (D.scope declared.now) (seen_scripts scripts.now) b.script (seen b.word) b.by.now)) }
-    ensures none { IfOk result (λ found. IfNone found ((script : ℕ) (label : TokenSeen) (by : Word)
-        → IsBarred (D.scope declared.now) (seen_scripts scripts.now) script label by → ⊥)) }
+) -> Result<Vec<Barred<'a>>, AllocError>
+    ensures { IfOk result (λ found. AreAllBarred (D.scope declared.now) (seen_scripts scripts.now) (map seen_barred found.items)) }
 {
     let commands = commands_of(alloc, scripts)?;
     let asked = asked_of(alloc, declared, scripts)?;
-    let watch = watch_of(alloc, keys, declared, asked.asked.as_slice(), commands)?;
-    Ok(watch.first_barred(declared))
+    let watch = watch_of(
+        alloc,
+        keys,
+        declared,
+        asked.asked.as_slice(),
+        commands.as_slice(),
+    )?;
+    watch.all_barred(alloc, declared)
 }

@@ -4,17 +4,19 @@ ghost use Rattle.std.specs.Prelude.{◌≡◌, IfOk, List, filter, length, map};
 ghost use Rattle.std.specs.Option.{option_map};
 ghost use Rattle.mmtext.specs.Views.{seen};
 ghost use Rattle.mmtext.specs.Words.{Word};
-ghost use Rattle.source.specs.Views.{seen_words};
+ghost use Rattle.source.specs.Views.{seen_words, seen_pairs};
 ghost use Rattle.expanding.specs.Commands.{Command as CommandSeen};
-ghost use Rattle.expanding.specs.Barred.{delete_of, move_of, moves};
-ghost use Rattle.expanding.specs.Bars.{seen_command, seen_bar, bar_of_delete, bar_of_move, bar_of, bars_of, is_moved_once, reaches, bars_there, is_lost, IsSaid};
+ghost use Rattle.expanding.specs.Barred.{delete_of, move_of};
+ghost use Rattle.expanding.specs.Bearing.{AreRenames};
+ghost use Rattle.expanding.specs.Bars.{seen_command, seen_bar, moved_by, moved_in, bar_of_delete, bar_of_move, bar_of, bars_of, is_moved_once, reaches, bars_there, is_lost, IsSaid};
 
 use crate::commands::{Command, words_of};
 use crate::labels::{holds, label_set};
-use crate::spreading::cites;
+use crate::renamed::Renames;
 use giving::LabelMap;
 use mmtext::Token;
 use source::Declared;
+use spreading::cites;
 use std::alloc::{AllocError, Global};
 use std::hash::RandomState;
 
@@ -180,31 +182,54 @@ pub(crate) fn bars_of<'a, D: Declared<'a>>(
 
 // ---- theorems
 
-/// Whether a command moves an assertion.
-fn moves(part: &[Token<'_>], label: &[u8]) -> bool
-    ensures { result ≡ moves label.now (map seen part.now) }
+/// The label of the assertion that a command moves, twice.
+fn moved_by<'a>(part: &[Token<'a>]) -> Option<(&'a [u8], &'a [u8])>
+    ensures { option_map (λ r. (r.0.now, r.1.now)) result ≡ moved_by (map seen part.now) }
 {
-    match part {
-        [verb, moved, ..] => verb.text == b"move".as_slice() && moved.text == label,
-        _ => false,
+    let [verb, label, ..] = part else {
+        return None;
+    };
+    if verb.text != b"move".as_slice() {
+        return None;
     }
+    Some((label.text, label.text))
 }
 
-/// How many commands move an assertion.
-fn moving(commands: &[Command<'_, '_>], label: &[u8]) -> usize
-    ensures { result ≡ length (filter (λ c. moves label.now (map seen c.words.now)) commands.now) }
+/// Those of all commands.
+fn moved_in<'a>(
+    alloc: Global,
+    commands: &[Command<'_, 'a>],
+) -> Result<Vec<(&'a [u8], &'a [u8])>, AllocError>
+    ensures { IfOk result (λ pairs. seen_pairs pairs.items ≡ moved_in (map seen_command commands.now)) }
 {
-    commands
-        .iter()
-        .filter(|command| moves(command.words, label))
-        .count()
+    let mut pairs = Vec::new(alloc);
+    for command in commands {
+        if let Some(pair) = moved_by(command.words) {
+            pairs.push(pair)?;
+        }
+    }
+    Ok(pairs)
 }
 
-/// Whether just one command moves an assertion.
-fn is_moved_once(commands: &[Command<'_, '_>], label: &[u8]) -> bool
-    ensures { result ≡ is_moved_once (map seen_command commands.now) label.now }
+/// Which labels commands move: each is led to itself as often as they do.
+pub(crate) fn moves_of<'a>(
+    alloc: Global,
+    keys: RandomState,
+    commands: &[Command<'_, 'a>],
+) -> Result<Renames<'a>, AllocError>
+    ensures { IfOk result (AreRenames (moved_in (map seen_command commands.now))) }
 {
-    moving(commands, label) == 1
+    Renames::of(alloc, keys, moved_in(alloc, commands)?)
+}
+
+/// Whether just one command moves an assertion: one look-up.
+fn is_moved_once(moved: &Renames<'_>, label: &[u8]) -> bool
+    ensures { (cs : List CommandSeen) → AreRenames (moved_in cs) moved.now → result ≡ is_moved_once cs label.now }
+{
+    match moved.new_labels(label) {
+        None => false,
+        Some(labels) => labels.as_slice().len() == 1,
+    }
 }
 
 /// Whether a place is one at which such a theorem stands.
@@ -220,13 +245,14 @@ fn reaches(reach: Option<(usize, usize)>, place: usize) -> bool
 /// Whether the theorem at a place forbids a command, if no script asks for its proof.
 pub(crate) fn bars_there<'a, D: Declared<'a>>(
     declared: &D,
-    commands: &[Command<'_, '_>],
+    moved: &Renames<'_>,
     place: usize,
     bar: Bar<'_>,
 ) -> bool
-    ensures { result ≡ bars_there (D.scope declared.now) (map seen_command commands.now) place (seen_bar bar.entry) }
+    ensures { (cs : List CommandSeen) → AreRenames (moved_in cs) moved.now
+        → result ≡ bars_there (D.scope declared.now) cs place (seen_bar bar.entry) }
 {
     reaches(bar.reach, place)
         && cites(declared, place, bar.label.text)
-        && (bar.reach.is_none() || is_moved_once(commands, bar.label.text))
+        && (bar.reach.is_none() || is_moved_once(moved, bar.label.text))
 }

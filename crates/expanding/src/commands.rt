@@ -3,15 +3,15 @@
 ghost use Rattle.std.specs.Prelude.{◌≡◌, ◌++◌, IfOk, OnOk, map};
 ghost use Rattle.mmtext.specs.Views.{seen};
 ghost use Rattle.source.specs.Views.{seen_words};
-ghost use Rattle.expanding.specs.Forms.{AreParts};
+ghost use Rattle.spreading.specs.Forms.{AreParts};
 ghost use Rattle.expanding.specs.Commands.{AreCommands, command_of};
 ghost use Rattle.expanding.specs.Barred.{words_of};
 ghost use Rattle.expanding.specs.Bars.{seen_command, seen_part};
 ghost use Rattle.expanding.specs.Views.{seen_scripts};
 
 use crate::asking::spoken_in;
-use crate::forms::{begins_with, part_length};
 use mmtext::Token;
+use spreading::{begins_with, part_length};
 use std::alloc::{AllocError, Global};
 
 /// A command of a script, or a word that stands alone.

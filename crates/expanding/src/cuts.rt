@@ -5,8 +5,8 @@ ghost use Rattle.mmtext.specs.Views.{seen};
 ghost use Rattle.expanding.specs.Cuts.{cut_of, brought};
 ghost use Rattle.expanding.specs.Views.{seen_cut};
 
-use crate::forms::first_place;
 use mmtext::Token;
+use spreading::first_place;
 
 /// A command around the proof that it brings.
 #[derive(Clone, Copy)]

@@ -3,14 +3,14 @@
 ghost use Rattle.std.specs.Prelude.{◌≡◌, IfOk, List, map};
 ghost use Rattle.std.specs.Option.{option_map};
 ghost use Rattle.mmtext.specs.Views.{seen};
-ghost use Rattle.expanding.specs.Forms.{Part};
+ghost use Rattle.spreading.specs.Forms.{Part};
 ghost use Rattle.expanding.specs.Descriptions.{Front, comment_at, comment_of, IsDescriptive, description_of, is_assertion_mark, label_in, unit_of};
 ghost use Rattle.expanding.specs.InFront.{FindsFronts, seen_described};
 
 use crate::commands::parts_in;
-use crate::forms::{begins_with, unit_of};
 use crate::in_front::{comment_at, fronts_of};
 use mmtext::Token;
+use spreading::{begins_with, behind, place_length};
 use std::alloc::{AllocError, Global};
 use std::collections::HashMap;
 use std::hash::RandomState;
@@ -46,6 +46,14 @@ pub(crate) fn label_in<'a>(unit: &[Token<'a>]) -> Option<Token<'a>>
         before = *word;
     }
     None
+}
+
+/// The words of the assertion that a command `add` has.
+pub(crate) fn unit_of<'w, 'a>(part: &'w [Token<'a>]) -> &'w [Token<'a>]
+    ensures { map seen result.now ≡ unit_of (map seen part.now) }
+{
+    let words = behind(part, 1);
+    behind(words, place_length(words))
 }
 
 /// The comment right in front of the label of an assertion, or else right in front of its first word.

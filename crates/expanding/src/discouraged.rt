@@ -1,22 +1,21 @@
 //! Commands of scripts that do what comments of the source discourage.
 
-ghost use Rattle.std.specs.Prelude.{◌≡◌, IfOk, find, is_some, map};
+ghost use Rattle.std.specs.Prelude.{◌≡◌, IfOk, find, map};
 ghost use Rattle.std.specs.Option.{option_map};
 ghost use Rattle.mmtext.specs.Views.{seen};
 ghost use Rattle.source.specs.Views.{seen_words};
 ghost use Rattle.expanding.specs.Bearing.{seen_bearers, names_of};
 ghost use Rattle.expanding.specs.Bars.{seen_command};
-ghost use Rattle.expanding.specs.Discouraged.{AreDiscouraged, cites_already, reproved_by, citing_words, modified, is_new_usage, discouraged_in, first_discouraged};
+ghost use Rattle.expanding.specs.Discouraged.{AreDiscouraged, cites_already, reproved_by, citing_words, modified, is_new_usage, discouraged_in, told_of, all_discouraged};
 ghost use Rattle.expanding.specs.Views.{seen_scripts, seen_discouraged, seen_found};
 
 use crate::bearers::{Bearers, bearers_for};
 use crate::commands::{Command, commands_of};
 use crate::cuts::brought;
-use crate::forms::{begins_with, behind};
 use crate::names::Names;
-use crate::spreading::cites;
 use mmtext::Token;
 use source::Declared;
+use spreading::{begins_with, behind, cites};
 use std::alloc::{AllocError, Global};
 use std::hash::RandomState;
 
@@ -131,27 +130,42 @@ impl<'a> Names<'a> {
         Some(Discouraged::Uses(word))
     }
 
-    /// What the commands do first, with the number of the script.
-    fn first_discouraged<'d, D: Declared<'d>>(
+    /// What a command does first although it is discouraged, with the number of its script.
+    fn told_of<'d, D: Declared<'d>>(
         &self,
         declared: &D,
-        commands: &[Command<'_, 'a>],
+        command: Command<'_, 'a>,
     ) -> Option<(usize, Discouraged<'a>)>
         ensures { option_map seen_found result
-            ≡ first_discouraged (D.scope declared.now) (names_of (D.scope declared.now) self.now) (map seen_command commands.now) }
+            ≡ told_of (D.scope declared.now) (names_of (D.scope declared.now) self.now) (seen_command command.entry) }
     {
+        let found = self.discouraged_in(declared, command.words)?;
+        Some((command.script, found))
+    }
+
+    /// That of each command that does.
+    fn all_discouraged<'d, D: Declared<'d>>(
+        &self,
+        alloc: Global,
+        declared: &D,
+        commands: &[Command<'_, 'a>],
+    ) -> Result<Vec<(usize, Discouraged<'a>)>, AllocError>
+        ensures { IfOk result (λ all. map seen_found all.items
+            ≡ all_discouraged (D.scope declared.now) (names_of (D.scope declared.now) self.now) (map seen_command commands.now)) }
+    {
+        let mut all = Vec::new(alloc);
         for command in commands {
-            if let Some(found) = self.discouraged_in(declared, command.words) {
-                return Some((command.script, found));
+            if let Some(found) = self.told_of(declared, *command) {
+                all.push(found)?;
             }
         }
-        None
+        Ok(all)
     }
 }
 
-/// What scripts do first although comments of the source discourage it, with the number of the script, from 0: give a theorem another proof
-/// whose label is among `modification`, or cite an assertion whose label is among `usage` in a proof that doesn't cite it in the source.
-/// Each assertion counts by every label that commands `rename` of the scripts may give it.
+/// What scripts do although comments of the source discourage it, with the number of the script, from 0: each command that gives a theorem
+/// another proof whose label is among `modification`, or cites an assertion whose label is among `usage` in a proof that doesn't cite it in
+/// the source. Each assertion counts by every label that commands `rename` of the scripts may give it. Of a command the first is told.
 ///
 /// The scripts are the words behind `spread`. It costs some look-ups for each rename, and one or two for each word that may be cited.
 ///
@@ -165,10 +179,10 @@ pub fn discouraged_of<'a, 'd, D: Declared<'d>>(
     modification: &[&'a [u8]],
     usage: &[&'a [u8]],
     scripts: &[Vec<Token<'a>>],
-) -> Result<Option<(usize, Discouraged<'a>)>, AllocError>
+) -> Result<Vec<(usize, Discouraged<'a>)>, AllocError>
     ensures { IfOk result (λ found. AreDiscouraged (D.scope declared.now)
         (record { modification = seen_words modification.now; usage = seen_words usage.now }) (seen_scripts scripts.now)
-        (option_map seen_found found)) }
+        (map seen_found found.items)) }
 {
     let commands = commands_of(alloc, scripts)?;
     let names = Names::new(
@@ -179,5 +193,5 @@ pub fn discouraged_of<'a, 'd, D: Declared<'d>>(
         usage,
         commands.as_slice(),
     )?;
-    Ok(names.first_discouraged(declared, commands.as_slice()))
+    names.all_discouraged(alloc, declared, commands.as_slice())
 }

@@ -4,7 +4,7 @@ ghost use Rattle.std.specs.Prelude.{◌≡◌, ◌++◌, ◌∷◌, [], IfOk, On
 ghost use Rattle.std.specs.Fmt.{decimal};
 ghost use Rattle.mmtext.specs.Text.{Token as Word};
 ghost use Rattle.mmtext.specs.Views.{seen};
-ghost use Rattle.expanding.specs.Words.{place_at, word_at};
+ghost use Rattle.spreading.specs.Words.{place_at, word_at};
 ghost use Rattle.expanding.specs.Views.{IsLaid, with_beginning};
 
 use mmtext::Token;

@@ -11,11 +11,11 @@ ghost use Rattle.expanding.specs.Discouraged.{Remarked, added_by, added, is_decl
 
 use crate::bearers::{Bearers, Called, bearers_for, called_of};
 use crate::commands::Command;
-use crate::described::label_in;
-use crate::forms::{begins_with, unit_of};
+use crate::described::{label_in, unit_of};
 use crate::renamed::Renames;
 use mmtext::Token;
 use source::Declared;
+use spreading::begins_with;
 use std::alloc::{AllocError, Global};
 use std::hash::RandomState;
 

@@ -4,15 +4,15 @@ ghost use Rattle.std.specs.Prelude.{◌≡◌, ◌++◌, ◌≤◌, ◌∷◌, [
 ghost use Rattle.mmtext.specs.Text.{Token as Word};
 ghost use Rattle.mmtext.specs.Views.{seen};
 ghost use Rattle.expanding.specs.Refusals.{IsUnranked};
-ghost use Rattle.expanding.specs.Forms.{words_before_place, beginning_of};
+ghost use Rattle.spreading.specs.Forms.{words_before_place, beginning_of};
 ghost use Rattle.expanding.specs.Ranking.{IsRanked, gap_of_place, gap_of, taken_among, ranked_place, ranked_part, crowded_at, crowded_behind};
 ghost use Rattle.expanding.specs.Views.{IsLaid, IsRanker, IsRankerOf, IsGiven, IsTooMany, with_gap, with_beginning, AreFronts};
 
-use crate::forms::{beginning_of, is_behind, is_beside, part_length, split_place};
 use crate::laid::Laid;
-use crate::misfit::Misfit;
+use crate::unranked::Unranked;
 use mmtext::Token;
 use source::Declared;
+use spreading::{is_behind, is_beside, part_length, split_place};
 use std::alloc::{AllocError, Global};
 
 /// The most that scripts may put at one place.
@@ -38,6 +38,17 @@ fn fronts_of(alloc: Global, flags: &[bool]) -> Result<Vec<usize>, AllocError>
         fronts.push(count)?;
     }
     Ok(fronts)
+}
+
+/// The place of a part that begins a transaction.
+fn beginning_of(part: &[Token<'_>]) -> Option<usize>
+    ensures { result ≡ beginning_of (map seen part.now) }
+{
+    let first = part.first()?;
+    if first.text == b"begin".as_slice() {
+        return Some(first.place);
+    }
+    None
 }
 
 impl Ranker {
@@ -116,7 +127,7 @@ impl Ranker {
         declared: &D,
         words: &[Token<'w>],
         laid: &mut Laid,
-    ) -> Result<(), Misfit<'w>>
+    ) -> Result<(), Unranked<'w>>
         ensures laid { (flags : List Bool) (earlier : List ℕ) → IsRankerOf (D.scope declared.now) flags earlier self.old
             → OnOk result ((ts : List Word) → IsLaid ts laid.old
             → IsLaid (ts ++ ranked_place (D.scope declared.now) flags earlier (map seen words.now)) laid.new) }
@@ -140,7 +151,7 @@ impl Ranker {
             return Ok(());
         };
         let Some(rank) = self.rank_at(gap) else {
-            return Err(Misfit::Crowded(*how));
+            return Err(Unranked::Crowded(*how));
         };
         laid.put_rank(alloc, rank, how.place)?;
         laid.put_words(others)?;
@@ -154,7 +165,7 @@ impl Ranker {
         declared: &D,
         part: &[Token<'w>],
         laid: &mut Laid,
-    ) -> Result<(), Misfit<'w>>
+    ) -> Result<(), Unranked<'w>>
         ensures laid { (flags : List Bool) (earlier : List ℕ) → IsRankerOf (D.scope declared.now) flags earlier self.old
             → OnOk result ((ts : List Word) → IsLaid ts laid.old
             → IsLaid (ts ++ ranked_part (D.scope declared.now) flags earlier (map seen part.now)) laid.new) }
@@ -187,7 +198,7 @@ impl Ranker {
         alloc: Global,
         declared: &D,
         words: &[Token<'w>],
-    ) -> Result<Laid, Misfit<'w>>
+    ) -> Result<Laid, Unranked<'w>>
         ensures ranked { (flags : List Bool) (earlier : List ℕ) → IsRanker flags earlier self.old
             → length flags ≡ length (D.scope declared.now).assertions
             → IfOk result (λ laid. (out : List Word) × (gaps : List ℕ) × IsLaid out laid × IsRanker flags (earlier ++ gaps) self.new

@@ -92,6 +92,17 @@ impl<'a> Renames<'a> {
         ensures { IfOk result (AreRenames (renames (map seen_command commands.now))) }
     {
         let pairs = pairs_of(alloc, commands)?;
+        Renames::of(alloc, keys, pairs)
+    }
+
+    /// Those from these old labels to these new ones.
+    pub(crate) fn of(
+        alloc: Global,
+        keys: RandomState,
+        pairs: Vec<(&'a [u8], &'a [u8])>,
+    ) -> Result<Renames<'a>, AllocError>
+        ensures { IfOk result (AreRenames (seen_pairs pairs.entry.items)) }
+    {
         let next = next_of(alloc, keys, pairs.as_slice())?;
         Ok(Renames { pairs, next })
     }

@@ -2,7 +2,7 @@
 
 ghost use Rattle.std.specs.Prelude.{map};
 ghost use Rattle.mmtext.specs.Views.{seen, IsReadAs};
-ghost use Rattle.expanding.specs.Words.{word_language};
+ghost use Rattle.spreading.specs.Words.{word_language};
 
 use mmsyntax::MOST_BYTES;
 use mmtext::{Mark, Reader, Stop, TextFault, Token, read};
@@ -18,7 +18,7 @@ impl<'a> Reader<'a> for WordReader<'a> {
     ghost use Rattle.std.specs.Prelude.{List, map};
     ghost use Rattle.mmtext.specs.Text.{Token as Word};
     ghost use Rattle.mmtext.specs.Views.{seen};
-    ghost use Rattle.expanding.specs.Words.{word_language};
+    ghost use Rattle.spreading.specs.Words.{word_language};
 
     type Said = Vec<Token<'a>>;
 

@@ -11,9 +11,9 @@ use Rattle.mmsyntax.specs.Tables.{Tables, Contents}
 use Rattle.source.specs.Scopes.{Assertion, Scope}
 use Rattle.source.specs.Flags.{kept}
 use Rattle.taking.specs.Names.{Map}
-use Rattle.expanding.specs.Words.{word_at}
+use Rattle.spreading.specs.Words.{word_at}
 use Rattle.expanding.specs.Cuts.{Cut}
-use Rattle.expanding.specs.Forms.{Part, AreParts}
+use Rattle.spreading.specs.Forms.{Part, AreParts}
 use Rattle.pasting.specs.Places.{places_of, places_in}
 use Rattle.pasting.specs.Proofs.{given, steps, is_compressed}
 use Rattle.pasting.specs.Pasted.{Proving, given_in, with_added, with_labels, with_given, pasted_by, pasted, proving, fault_of, paste_fault_by}

@@ -4,7 +4,7 @@ use Rattle.std.specs.Prelude.{filter_map}
 use Rattle.std.proofs.lemmas.List.{append_assoc, map_more}
 use Rattle.std.proofs.lemmas.List.Elements.{filter_map-append}
 use Rattle.expanding.specs.Descriptions.{begun_behind}
-use Rattle.expanding.specs.Forms.{Part}
+use Rattle.spreading.specs.Forms.{Part}
 use Rattle.pasting.specs.Quotes.{Quote, Quotation, quotes_of, quotes_behind}
 use Rattle.pasting.specs.Views.{seen_quotation}
 use Rattle.pasting.specs.declared.own_words.Quotation.{Quotation as CodeQuotation}

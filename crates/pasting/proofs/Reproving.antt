@@ -12,7 +12,7 @@ use Rattle.mmsyntax.specs.Tables.{Tables, place_of}
 use Rattle.source.specs.Scopes.{Assertion, Scope}
 use Rattle.taking.specs.Names.{Map}
 use Rattle.expanding.specs.Cuts.{Cut, cut_of}
-use Rattle.expanding.specs.Forms.{Part}
+use Rattle.spreading.specs.Forms.{Part}
 use Rattle.prooftrees.specs.Names.{labelled}
 use Rattle.pasting.specs.Additions.{Addition, addition_of, theorem_of}
 use Rattle.pasting.specs.Pasted.{Proving, reproved, reproving, adding, added_word, proving, proving_in, proving_of, theorem_at}

@@ -7,8 +7,8 @@ use Rattle.mmtext.specs.Words.{Word}
 use Rattle.mmsyntax.specs.Tables.{Tables}
 use Rattle.source.specs.Scopes.{Hypothesis, typing, premise, Assertion, mandatory}
 use Rattle.taking.specs.Names.{Map}
-use Rattle.expanding.specs.Words.{says}
-use Rattle.expanding.specs.Forms.{Part, begins_with}
+use Rattle.spreading.specs.Words.{says}
+use Rattle.spreading.specs.Forms.{Part, begins_with}
 
 -- ---- its words
 

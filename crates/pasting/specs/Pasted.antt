@@ -14,10 +14,10 @@ use Rattle.mmsyntax.specs.Layout.{step_word}
 use Rattle.source.specs.Scopes.{Assertion, Scope, label_of}
 use Rattle.taking.specs.Names.{Map}
 use Rattle.prooftrees.specs.Names.{labelled}
-use Rattle.expanding.specs.Words.{says, word_at}
-use Rattle.expanding.specs.Forms.{Part, AreParts}
+use Rattle.spreading.specs.Words.{says, word_at}
+use Rattle.spreading.specs.Forms.{Part, AreParts}
 use Rattle.expanding.specs.Cuts.{Cut, cut_of}
-use Rattle.expanding.specs.Spreading.{assertion_at}
+use Rattle.spreading.specs.Spreading.{assertion_at}
 use Rattle.pasting.specs.Proofs.{Given, steps, untaken, faulty, given, is_compressed}
 use Rattle.pasting.specs.Additions.{Addition, addition_of, theorem_of, added_by}
 

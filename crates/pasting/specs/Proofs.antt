@@ -13,7 +13,7 @@ use Rattle.source.specs.Scopes.{Assertion}
 use Rattle.source.specs.Proofs.{Tree, taken_by, denoted, is_unfinished, size}
 use Rattle.taking.specs.Names.{Map}
 use Rattle.taking.specs.Listings.{listing}
-use Rattle.expanding.specs.Words.{says}
+use Rattle.spreading.specs.Words.{says}
 use Rattle.expanding.specs.Asking.{spoken_in}
 
 -- ---- words as a proof

@@ -8,7 +8,7 @@ use Rattle.source.specs.Scopes.{label_of}
 use Rattle.source.specs.Statements.{Proof}
 use Rattle.expanding.specs.Cuts.{Cut, cut_of}
 use Rattle.expanding.specs.Descriptions.{begun_behind}
-use Rattle.expanding.specs.Forms.{Part, AreParts}
+use Rattle.spreading.specs.Forms.{Part, AreParts}
 use Rattle.pasting.specs.Additions.{Addition, addition_of}
 use Rattle.pasting.specs.Pasted.{reproved}
 use Rattle.pasting.specs.Proofs.{is_compressed, proof_of}

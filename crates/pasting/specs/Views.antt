@@ -17,7 +17,7 @@ use Rattle.sites.specs.Sites.{AreSites}
 use Rattle.taking.specs.Names.{Map, is_symbol_of, has_float_labelled}
 use Rattle.taking.specs.Settings.{is_float}
 use Rattle.prooftrees.specs.Names.{labelled}
-use Rattle.expanding.specs.Words.{word_at}
+use Rattle.spreading.specs.Words.{word_at}
 use Rattle.expanding.specs.Views.{seen_cut}
 use Rattle.pasting.specs.Additions.{Addition, floats_of, theorem_of}
 use Rattle.pasting.specs.Places.{places_of}

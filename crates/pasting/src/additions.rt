@@ -9,7 +9,7 @@ ghost use Rattle.source.specs.Scopes.{Assertion};
 ghost use Rattle.source.specs.Views.{seen_hypothesis};
 ghost use Rattle.taking.specs.Names.{Map};
 ghost use Rattle.mmsyntax.specs.Tables.{Tables};
-ghost use Rattle.expanding.specs.Forms.{AreParts, Part};
+ghost use Rattle.spreading.specs.Forms.{AreParts, Part};
 ghost use Rattle.expanding.specs.Views.{seen_scripts};
 ghost use Rattle.pasting.specs.Additions.{added_by, floats_of};
 ghost use Rattle.pasting.specs.Pasted.{AreAdditions};
@@ -17,12 +17,12 @@ ghost use Rattle.pasting.specs.Views.{AreKnown, AreNoted, at_label, flags_in, se
 
 use crate::addition::{Addition, addition_of};
 use crate::theorem::mandatory_of;
-use expanding::part_length;
 use mmsyntax::Sequence;
 use mmtext::Token;
 use prooftrees::{CitedFrames, flags_of};
 use sites::Indexed;
 use source::{Declared, HypothesisWords};
+use spreading::part_length;
 use std::alloc::{AllocError, Global};
 use std::hash::RandomState;
 

@@ -21,12 +21,13 @@ use crate::steps::put_steps;
 use crate::theorem::floats_of;
 use crate::unpasted::Unpasted;
 use crate::words::is_compressed;
-use expanding::{Laid, part_length};
+use expanding::Laid;
 use mmsyntax::{Database, Proof};
 use mmtext::Token;
 use prooftrees::Roles;
 use sites::{Sites, sites_of};
 use source::Declared;
+use spreading::part_length;
 use std::alloc::{AllocError, Global};
 use std::hash::RandomState;
 

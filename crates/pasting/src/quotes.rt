@@ -2,7 +2,7 @@
 
 ghost use Rattle.std.specs.Prelude.{◌≡◌, ◌++◌, IfOk, OnOk, codes, map, option_map};
 ghost use Rattle.mmtext.specs.Views.{seen};
-ghost use Rattle.expanding.specs.Forms.{begins_with};
+ghost use Rattle.spreading.specs.Forms.{begins_with};
 ghost use Rattle.expanding.specs.Views.{seen_cut};
 ghost use Rattle.source.specs.Scopes.{label_of};
 ghost use Rattle.source.specs.Views.{seen_hypothesis, seen_words};
@@ -13,9 +13,10 @@ use crate::addition::addition_of;
 use crate::own_words::OwnWords;
 use crate::proving::reproved;
 use crate::words::{is_compressed, proof_of};
-use expanding::{Cut, cut_of, part_length};
+use expanding::{Cut, cut_of};
 use mmtext::Token;
 use source::HypothesisWords;
+use spreading::part_length;
 use std::alloc::{AllocError, Global};
 
 /// What a script gives to a theorem in its own words.

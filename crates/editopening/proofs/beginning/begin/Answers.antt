@@ -10,8 +10,9 @@ use Rattle.checking.specs.Checks.{AreScripts}
 use Rattle.expanding.specs.declared.laid.Laid.{Laid}
 use Rattle.editscripts.specs.Expanded.{ArePasted, AreRanked, texts_of}
 use Rattle.editscripts.specs.Expanded.{IsSpreadOf}
-use Rattle.editscripts.specs.Encouraged.{IsDiscouragedBy}
-use Rattle.editscripts.specs.Refusals.{IsWordlessLine, IsMisfitLine, IsBarredBy, IsUnlaidBy, IsUnreadBy}
+use Rattle.editscripts.specs.Encouraged.{AreAllowed}
+use Rattle.editscripts.specs.Faults.{IsFaultsText}
+use Rattle.editscripts.specs.Refusals.{IsUnlaidBy, IsUnreadBy}
 use Rattle.pasting.specs.Views.{IsNarrow}
 use Rattle.editopening.proofs.Narrow.{narrow_taken}
 use Rattle.editopening.specs.Opening.{Begun, stand_ins_of}
@@ -29,53 +30,11 @@ returns-in_err-spread-clause-refused g c =
     let source = c.args.source.now in
     let paths = map (λ p. p.now) c.args.order.paths.now in
     let path = c.args.order.path.now in
+    let force = c.args.order.force in
     let p = err_from_is_err_and c.from_residual.result c.from_residual.ensures.1 in
     rw (p.1, p.2) (told_more
-    (λ line. IsWordlessLine paths texts line ⊎ IsMisfitLine paths s texts line) (IsUnbegunLine path paths source s texts c.args.order.force)
-    (λ line h. elim h [
-      | inl w ↦ inl w
-      | inr m ↦ inr (inl m)
-    ]) c.in_err-spread.field-0.0 c.in_err-spread.ensures.refused)
-
-pub returns-in_err-are_free-clause-refused : goal.returns-in_err-are_free-clause-refused
-returns-in_err-are_free-clause-refused g c =
-    let s = g.D.Declared.scope c.args.declared.now in
-    let texts = seen_texts c.args.texts.now in
-    let source = c.args.source.now in
-    let paths = map (λ p. p.now) c.args.order.paths.now in
-    let path = c.args.order.path.now in
-    let scripts = c.as_slice-spread.result.now in
-    let spread =
-    subst (λ (ts : List (Vec CodeToken Global)). IsSpreadOf s texts (seen_scripts ts)) (sym c.as_slice-spread.ensures.value)
-    c.in_ok-spread.ensures.spread in
-    let p = err_from_is_err_and c.from_residual-in_err-are_free.result c.from_residual-in_err-are_free.ensures.1 in
-    rw (p.1, p.2) (told_more
-    (IsBarredBy paths s texts (seen_scripts scripts)) (IsUnbegunLine path paths source s texts c.args.order.force)
-    (λ line h. inr (inr (inl (record { spread = seen_scripts scripts; of_source = spread; cause = h }))))
-    c.in_err-are_free.field-0.0 c.in_err-are_free.ensures.refused)
-
-pub returns-in_err-are_encouraged-clause-refused : goal.returns-in_err-are_encouraged-clause-refused
-returns-in_err-are_encouraged-clause-refused g c =
-    let s = g.D.Declared.scope c.args.declared.now in
-    let texts = seen_texts c.args.texts.now in
-    let source = c.args.source.now in
-    let paths = map (λ p. p.now) c.args.order.paths.now in
-    let path = c.args.order.path.now in
-    let force = c.args.order.force in
-    let scripts = c.as_slice-spread.result.now in
-    let spread =
-    subst (λ (ts : List (Vec CodeToken Global)). IsSpreadOf s texts (seen_scripts ts)) (sym c.as_slice-spread.ensures.value)
-    c.in_ok-spread.ensures.spread in
-    let p = err_from_is_err_and c.from_residual-in_err-are_encouraged.result c.from_residual-in_err-are_encouraged.ensures.1 in
-    rw (p.1, p.2) (told_more
-    (IsDiscouragedBy paths source s texts force (seen_scripts scripts)) (IsUnbegunLine path paths source s texts force)
-    (λ line h. inr (inr (inr (inl (record {
-      spread = seen_scripts scripts;
-      of_source = spread;
-      free = c.in_ok-are_free.ensures.free;
-      cause = h;
-    })))))
-    c.in_err-are_encouraged.field-0.0 c.in_err-are_encouraged.ensures.refused)
+    (IsFaultsText paths source s texts force) (IsUnbegunLine path paths source s texts force) (λ line h. inl h)
+    c.in_err-spread.field-0.0 c.in_err-spread.ensures.refused)
 
 pub returns-in_err-taken-clause-refused : goal.returns-in_err-taken-clause-refused
 returns-in_err-taken-clause-refused g c =
@@ -89,15 +48,18 @@ returns-in_err-taken-clause-refused g c =
     let spread =
     subst (λ (ts : List (Vec CodeToken Global)). IsSpreadOf s texts (seen_scripts ts)) (sym c.as_slice-spread.ensures.value)
     c.in_ok-spread.ensures.spread in
+    let allowed =
+    subst (λ (ts : List (Vec CodeToken Global)). AreAllowed c.args.source.now s c.args.order.force (seen_scripts ts))
+    (sym c.as_slice-spread.ensures.value) c.in_ok-spread.ensures.allowed in
     let p = err_from_is_err_and c.from_residual-in_err-taken.result c.from_residual-in_err-taken.ensures.1 in
     rw (p.1, p.2) (told_more
     (IsUntakenBy path source s (seen_scripts scripts)) (IsUnbegunLine path paths source s texts force)
-    (λ line h. inr (inr (inr (inr (inl (record {
+    (λ line h. inr (inl (record {
       spread = seen_scripts scripts;
       of_source = spread;
-      allowed = record { free = c.in_ok-are_free.ensures.free; encouraged = c.in_ok-are_encouraged.ensures.encouraged };
+      allowed = allowed;
       cause = h;
-    }))))))
+    })))
     c.in_err-taken.field-0.0 c.in_err-taken.ensures.refused)
 
 pub lay_all-requires : goal.lay_all-requires
@@ -130,20 +92,23 @@ returns-in_err-laid-clause-refused g c =
     let spread =
     subst (λ (ts : List (Vec CodeToken Global)). IsSpreadOf s texts (seen_scripts ts)) (sym c.as_slice-spread.ensures.value)
     c.in_ok-spread.ensures.spread in
+    let allowed =
+    subst (λ (ts : List (Vec CodeToken Global)). AreAllowed c.args.source.now s c.args.order.force (seen_scripts ts))
+    (sym c.as_slice-spread.ensures.value) c.in_ok-spread.ensures.allowed in
     let p = err_from_is_err_and c.from_residual-in_err-laid.result c.from_residual-in_err-laid.ensures.1 in
     rw (p.1, p.2) (told_more
     (IsUnlaidBy paths s texts c.as_slice-flags.result.now db (seen_scripts scripts))
     (IsUnbegunLine path paths source s texts c.args.order.force)
-    (λ line h. inr (inr (inr (inr (inr (inl (record {
+    (λ line h. inr (inr (inl (record {
       over = record {
         spread = seen_scripts scripts;
         of_source = spread;
         taken = c.in_ok-taken.taken;
         for_scripts = c.in_ok-taken.ensures.taken;
       };
-      allowed = record { free = c.in_ok-are_free.ensures.free; encouraged = c.in_ok-are_encouraged.ensures.encouraged };
+      allowed = allowed;
       cause = subst (λ (flags : List Bool). IsUnlaidBy paths s texts flags db (seen_scripts scripts) line) c.as_slice-flags.ensures.value h;
-    }))))))) c.in_err-laid.field-0.0 c.in_err-laid.ensures.refused)
+    })))) c.in_err-laid.field-0.0 c.in_err-laid.ensures.refused)
 
 pub returns-in_err-scripts-clause-refused : goal.returns-in_err-scripts-clause-refused
 returns-in_err-scripts-clause-refused g c =
@@ -157,13 +122,16 @@ returns-in_err-scripts-clause-refused g c =
     let spread =
     subst (λ (ts : List (Vec CodeToken Global)). IsSpreadOf s texts (seen_scripts ts)) (sym c.as_slice-spread.ensures.value)
     c.in_ok-spread.ensures.spread in
+    let allowed =
+    subst (λ (ts : List (Vec CodeToken Global)). AreAllowed c.args.source.now s c.args.order.force (seen_scripts ts))
+    (sym c.as_slice-spread.ensures.value) c.in_ok-spread.ensures.allowed in
     let made = c.in_ok-laid.ensures.laid in
     let outs = made.1 in
     let laid = subst (λ (ls : List Laid). AreLaid outs ls) (sym c.as_slice.ensures.value) made.4 in
     let p = err_from_is_err_and c.from_residual-in_err-scripts.result c.from_residual-in_err-scripts.ensures.1 in
     rw (p.1, p.2) (told_more
     (IsUnreadBy paths c.prelude.result.now texts outs) (IsUnbegunLine path paths source s texts c.args.order.force)
-    (λ line h. inr (inr (inr (inr (inr (inr (inl (record {
+    (λ line h. inr (inr (inr (inl (record {
       with_ranks = record {
         over = record {
           spread = seen_scripts scripts;
@@ -178,9 +146,9 @@ returns-in_err-scripts-clause-refused g c =
         gaps = made.2;
         are_ranked = subst (λ (flags : List Bool). AreRanked s flags [] made.0 outs made.2) c.as_slice-flags.ensures.value made.5;
       };
-      allowed = record { free = c.in_ok-are_free.ensures.free; encouraged = c.in_ok-are_encouraged.ensures.encouraged };
+      allowed = allowed;
       cause = subst (λ (t : Tables). IsUnreadBy paths t texts outs line) c.prelude.ensures h;
-    })))))))) c.in_err-scripts.field-0.0 (c.in_err-scripts.ensures.refused outs laid))
+    }))))) c.in_err-scripts.field-0.0 (c.in_err-scripts.ensures.refused outs laid))
 
 pub open_for-requires : goal.open_for-requires
 open_for-requires g c =
@@ -214,6 +182,9 @@ returns-in_err-opened-clause-refused g c =
     let spread =
     subst (λ (ts : List (Vec CodeToken Global)). IsSpreadOf s texts (seen_scripts ts)) (sym c.as_slice-spread.ensures.value)
     c.in_ok-spread.ensures.spread in
+    let allowed =
+    subst (λ (ts : List (Vec CodeToken Global)). AreAllowed c.args.source.now s c.args.order.force (seen_scripts ts))
+    (sym c.as_slice-spread.ensures.value) c.in_ok-spread.ensures.allowed in
     let made = c.in_ok-laid.ensures.laid in
     let outs = made.1 in
     let ordered = c.in_ok-scripts.scripts.items in
@@ -241,11 +212,11 @@ returns-in_err-opened-clause-refused g c =
     let p = err_from_is_err_and c.from_residual-in_err-opened.result c.from_residual-in_err-opened.ensures.1 in
     rw (p.1, p.2) (told_more
     (IsUnopenedBy path db (stand_ins_of begun)) (IsUnbegunLine path paths source s texts c.args.order.force)
-    (λ line h. inr (inr (inr (inr (inr (inr (inr (record {
+    (λ line h. inr (inr (inr (inr (record {
       begun = begun;
-      allowed = record { free = c.in_ok-are_free.ensures.free; encouraged = c.in_ok-are_encouraged.ensures.encouraged };
+      allowed = allowed;
       cause = h;
-    }))))))))
+    })))))
     c.in_err-opened.field-0.0 (c.in_err-opened.ensures.refused library.taken.choice library.chosen_are))
 
 pub returns-clause-begun : goal.returns-clause-begun
@@ -264,7 +235,9 @@ returns-clause-begun g c =
       of_source =
           subst (λ (ts : List (Vec CodeToken Global)). IsSpreadOf s texts (seen_scripts ts)) (sym c.as_slice-spread.ensures.value)
           c.in_ok-spread.ensures.spread;
-      allowed = record { free = c.in_ok-are_free.ensures.free; encouraged = c.in_ok-are_encouraged.ensures.encouraged };
+      allowed =
+          subst (λ (ts : List (Vec CodeToken Global)). AreAllowed c.args.source.now s c.args.order.force (seen_scripts ts))
+          (sym c.as_slice-spread.ensures.value) c.in_ok-spread.ensures.allowed;
       for_scripts = c.in_ok-taken.ensures.taken;
       pasted = made.0;
       are_pasted = subst (λ (flags : List Bool). ArePasted s flags db (seen_scripts scripts) made.0) c.as_slice-flags.ensures.value made.3;

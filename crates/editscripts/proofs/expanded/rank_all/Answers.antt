@@ -1,15 +1,14 @@
 -- What is left to show of `rank_all`.
 use Rattle.std.proofs.Common.{◌≡◌, ◌∙◌, ◌+◌, ◌++◌, ◌∷◌, [], length, map, refl, ap, subst, Vec, Global}
-use Rattle.std.specs.Prelude.{◌≢◌, slice_index_or}
+use Rattle.std.specs.Prelude.{slice_index_or}
 use Rattle.std.proofs.lemmas.Option.{slice_get_read}
 use Rattle.mmtext.specs.Views.{seen}
 use Rattle.mmtext.specs.declared.token.Token.{Token as CodeToken}
 use Rattle.expanding.specs.Refusals.{IsUnranked}
 use Rattle.expanding.specs.Ranking.{IsRanked}
-use Rattle.expanding.specs.declared.misfit.Misfit.TheVariants.{NoMemory}
 use Rattle.editscripts.specs.Expanded.{RankedScript}
 use Rattle.checking.specs.Checks.{Bytes}
-use Rattle.editscripts.specs.Refusals.{IsCrowdedBy, misfit_line}
+use Rattle.editscripts.specs.Refusals.{IsCrowdedBy, IsCrowdedLine}
 use Rattle.expanding.specs.Views.{seen_scripts}
 use Rattle.editscripts.specs.Views.{seen_texts}
 use Rattle.editscripts.proofs.Expanding.{get_seen, ranked_next, laid_next}
@@ -27,27 +26,24 @@ returns-in-Err-clause-refused g c =
     let at = slice_get_read scripts (length scripts) k words refl c.loop-place-test.true c.index-scripts-place.is in
     let kept = c.loop-place.invariant in
     let gaps = kept.1 in
-    let why = c.in-Err.why in
-    told_more (λ line. (why ≢ NoMemory) × (line ≡ misfit_line c.path_at-path.result.now c.text_at-text.result.now why))
+    let ts = map seen words.items in
+    let unranked =
+    subst (λ us. IsUnranked s flags gaps (map seen us) c.in-Err.why) c.as_slice.ensures.value
+    (c.in-Err.ensures.crowded flags gaps kept.4 c.requires) in
+    told_more (IsCrowdedLine c.path_at-path.result.now c.text_at-text.result.now s flags gaps ts)
     (IsCrowdedBy paths s (seen_texts c.args.texts.now) flags (seen_scripts scripts))
     (λ line h. record {
       script = k;
       before = kept.0;
       gaps = gaps;
       are_ranked = kept.3;
-      ts = map seen words.items;
-      at = get_seen (λ (ts : Vec CodeToken Global). map seen ts.items) scripts k words at;
-      why = why;
-      unranked =
-          subst (λ ts. IsUnranked s flags gaps (map seen ts) why) c.as_slice.ensures.value
-          (c.in-Err.ensures.crowded flags gaps kept.4 c.requires);
-      told = h.0;
-      says =
-          h.1
-          ∙ ap (λ (path : Bytes). misfit_line path c.text_at-text.result.now why) c.path_at-path.ensures
-          ∙ ap (λ (text : Bytes). misfit_line (slice_index_or paths (k + 1) []) text why) c.text_at-text.ensures;
+      ts = ts;
+      at = get_seen (λ (us : Vec CodeToken Global). map seen us.items) scripts k words at;
+      cause =
+          subst (λ (text : Bytes). IsCrowdedLine (slice_index_or paths (k + 1) []) text s flags gaps ts line) c.text_at-text.ensures
+          (subst (λ (path : Bytes). IsCrowdedLine path c.text_at-text.result.now s flags gaps ts line) c.path_at-path.ensures h);
     })
-    c.in_ok-misfit-in-Err.field-0 c.in_ok-misfit-in-Err.ensures
+    c.in_ok-crowded-in-Err.field-0 (c.in_ok-crowded-in-Err.ensures s flags gaps ts unranked)
 
 pub loop-place-preserved : goal.loop-place-preserved
 loop-place-preserved g c =

@@ -11,7 +11,7 @@ use Rattle.scripts.specs.ScriptFaults.{FaultyScript}
 use Rattle.checking.specs.Checks.{Bytes, AreScripts}
 use Rattle.checking.proofs.ScriptFaults.{read_as}
 use Rattle.locating.specs.Told.{text_line}
-use Rattle.expanding.specs.Words.{text_of, place_at}
+use Rattle.spreading.specs.Words.{text_of, place_at}
 use Rattle.editscripts.specs.Expanded.{texts_of}
 use Rattle.editscripts.specs.Refusals.{IsUnreadBy}
 use Rattle.editscripts.specs.Views.{seen_texts}

@@ -3,7 +3,7 @@ use Rattle.std.proofs.Common.{◌≡◌, ◌∙◌, ◌<◌, ◌≤◌, ◌+◌,
 use Rattle.std.proofs.lemmas.List.{length-map, length-take-le, map-append}
 use Rattle.mmtext.specs.Views.{seen}
 use Rattle.expanding.specs.Commands.{AreCommands, command_of}
-use Rattle.expanding.specs.Forms.{AreParts}
+use Rattle.spreading.specs.Forms.{AreParts}
 use Rattle.expanding.specs.Bars.{seen_command, seen_part}
 use Rattle.expanding.specs.Views.{seen_scripts}
 use Rattle.expanding.proofs.Commanding.{commands_more}

@@ -2,10 +2,10 @@
 use Rattle.std.proofs.Common.{◌++◌, ◌∷◌, [], refl, map, take, sym, ap, subst, arith}
 use Rattle.std.proofs.lemmas.List.{drop_all, append-nil}
 use Rattle.mmtext.specs.Views.{seen}
-use Rattle.expanding.specs.Forms.{AreParts}
+use Rattle.spreading.specs.Forms.{AreParts}
 use Rattle.expanding.specs.Bars.{seen_part}
 use Rattle.expanding.proofs.Commanding.{part_more}
-use Rattle.expanding.proofs.Parted.{more_within, some_first, part_first, words_behind}
+use Rattle.spreading.proofs.Parted.{more_within, some_first, part_first, words_behind}
 use Rattle.expanding.proofs.commands.parts_in.Goals as goal
 
 pub loop-at-preserved : goal.loop-at-preserved

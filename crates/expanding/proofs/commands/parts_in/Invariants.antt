@@ -1,7 +1,7 @@
 -- What the loop of `parts_in` keeps: parts of the words that are left are the last of all.
 use Rattle.std.proofs.Common.{◌≤◌, ◌-◌, ◌++◌, List, map, length, drop}
 use Rattle.mmtext.specs.Views.{seen}
-use Rattle.expanding.specs.Forms.{Part, AreParts}
+use Rattle.spreading.specs.Forms.{Part, AreParts}
 use Rattle.expanding.specs.Bars.{seen_part}
 use Rattle.expanding.proofs.commands.parts_in.Given as goal
 

@@ -6,7 +6,7 @@ use Rattle.std.specs.Int.{from_bool}
 use Rattle.std.specs.Option.{option_map}
 use Rattle.mmtext.specs.declared.token.Token.{Token}
 use Rattle.mmtext.specs.Views.{seen}
-use Rattle.expanding.specs.Forms.{AreParts, begins_with}
+use Rattle.spreading.specs.Forms.{AreParts, begins_with}
 use Rattle.expanding.specs.Bars.{seen_part}
 use Rattle.expanding.specs.Descriptions.{Description, fronts, descriptions_behind, description_of, begun_behind, listed}
 use Rattle.expanding.specs.InFront.{seen_described}

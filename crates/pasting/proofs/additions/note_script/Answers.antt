@@ -5,8 +5,8 @@ use Rattle.std.proofs.lemmas.Grind.{flat_map-append}
 use Rattle.std.proofs.lemmas.List.{append_assoc, append-nil, drop_all}
 use Rattle.mmtext.specs.Views.{seen}
 use Rattle.source.specs.Scopes.{Assertion}
-use Rattle.expanding.specs.Forms.{AreParts}
-use Rattle.expanding.proofs.Parted.{more_within, some_first, part_first, words_behind}
+use Rattle.spreading.specs.Forms.{AreParts}
+use Rattle.spreading.proofs.Parted.{more_within, some_first, part_first, words_behind}
 use Rattle.pasting.specs.Additions.{added_by}
 use Rattle.pasting.specs.Views.{AreNoted}
 use Rattle.pasting.proofs.additions.note_script.Goals as goal

@@ -6,7 +6,7 @@ use Rattle.mmsyntax.specs.Tables.{Tables}
 use Rattle.source.specs.Scopes.{Assertion}
 use Rattle.source.specs.Views.{seen_hypothesis}
 use Rattle.taking.specs.Names.{Map}
-use Rattle.expanding.specs.Forms.{Part, AreParts}
+use Rattle.spreading.specs.Forms.{Part, AreParts}
 use Rattle.pasting.specs.Additions.{added_by, floats_of}
 use Rattle.pasting.specs.Views.{AreNoted}
 use Rattle.pasting.proofs.additions.note_script.Given as goal

@@ -4,9 +4,9 @@ use Rattle.std.specs.Int.{from_bool}
 use Rattle.std.proofs.lemmas.List.{append_assoc, append-nil, drop_all}
 use Rattle.mmtext.specs.Views.{seen}
 use Rattle.expanding.specs.Descriptions.{begun_behind}
-use Rattle.expanding.specs.Forms.{AreParts, begins_with}
+use Rattle.spreading.specs.Forms.{AreParts, begins_with}
 use Rattle.expanding.proofs.Fronting.{begun_more, begun_few}
-use Rattle.expanding.proofs.Parted.{more_within, some_first, part_first, words_behind}
+use Rattle.spreading.proofs.Parted.{more_within, some_first, part_first, words_behind}
 use Rattle.pasting.specs.Quotes.{quotes_behind, quotes_of}
 use Rattle.pasting.specs.Views.{seen_quote}
 use Rattle.pasting.proofs.Quoting.{quoted_more}

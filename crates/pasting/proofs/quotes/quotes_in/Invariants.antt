@@ -1,7 +1,7 @@
 -- What the loop of `quotes_in` keeps, and that it ends: what is given so far, and what the parts that are left give.
 use Rattle.std.proofs.Common.{◌≡◌, ◌≤◌, ◌-◌, ◌++◌, List, map, length, drop}
 use Rattle.mmtext.specs.Views.{seen}
-use Rattle.expanding.specs.Forms.{Part, AreParts}
+use Rattle.spreading.specs.Forms.{Part, AreParts}
 use Rattle.pasting.specs.Quotes.{quotes_behind}
 use Rattle.pasting.specs.Views.{seen_quote}
 use Rattle.pasting.proofs.quotes.quotes_in.Given as goal

@@ -3,7 +3,7 @@ use Rattle.std.proofs.Common.{◌≡◌, ◌∙◌, ◌+◌, true, sym, ap, arit
 use Rattle.std.specs.Prelude.{slice_get}
 use Rattle.std.specs.Int.{from_bool}
 use Rattle.mmtext.specs.Views.{seen}
-use Rattle.expanding.specs.Forms.{is_beside}
+use Rattle.spreading.specs.Forms.{is_beside}
 use Rattle.expanding.proofs.Placing.{front_most, front_found}
 use Rattle.expanding.proofs.ranking.Ranker.gap_of.Goals as goal
 

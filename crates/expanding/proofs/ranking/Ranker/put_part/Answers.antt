@@ -3,9 +3,10 @@ use Rattle.std.proofs.Common.{◌≡◌, ◌∙◌, ◌++◌, map, sym, ap, subs
 use Rattle.std.specs.Prelude.{IfErr}
 use Rattle.std.proofs.lemmas.List.{append_assoc}
 use Rattle.mmtext.specs.Views.{seen}
-use Rattle.expanding.specs.Forms.{words_before_place}
+use Rattle.spreading.specs.Forms.{words_before_place}
 use Rattle.expanding.specs.Ranking.{gap_of_place, crowded_at, ranked_place, ranked_part}
-use Rattle.expanding.specs.Views.{IsLaid, IsRankerOf, IsTooMany, with_gap, front_words}
+use Rattle.expanding.specs.Views.{IsLaid, IsRankerOf, IsTooMany, with_gap}
+use Rattle.spreading.specs.Views.{front_words}
 use Rattle.expanding.proofs.Placing.{placed, crowded_there, gap_there, on_ok}
 use Rattle.expanding.proofs.ranking.Ranker.put_part.Goals as goal
 

@@ -6,7 +6,7 @@ use Rattle.mmtext.specs.Text.{Token}
 use Rattle.mmtext.specs.Views.{seen}
 use Rattle.mmtext.specs.declared.token.Token.{Token as CodeToken}
 use Rattle.expanding.specs.Ranking.{gap_of_place}
-use Rattle.expanding.specs.Words.{word_at}
+use Rattle.spreading.specs.Words.{word_at}
 use Rattle.expanding.specs.Views.{IsLaid, IsRankerOf, with_gap}
 use Rattle.expanding.proofs.Placing.{two_words, none_there, too_many, ranked_none, crowded_none, crowded_full, crowded_room, ranked_there, gap_most}
 use Rattle.expanding.proofs.ranking.Ranker.put_place.Goals as goal

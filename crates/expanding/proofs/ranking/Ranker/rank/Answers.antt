@@ -6,7 +6,7 @@ use Rattle.mmtext.specs.Views.{seen}
 use Rattle.expanding.specs.Ranking.{gaps_of}
 use Rattle.expanding.specs.Refusals.{IsUnranked}
 use Rattle.expanding.specs.Views.{IsRankerOf}
-use Rattle.expanding.proofs.Parted.{more_within, some_first, part_first, parts_of, words_behind}
+use Rattle.spreading.proofs.Parted.{more_within, some_first, part_first, parts_of, words_behind}
 use Rattle.expanding.proofs.PartsRanked.{IsRanking, ranking_none, ranking_more, ranking_all, unranked}
 use Rattle.expanding.proofs.ranking.Ranker.rank.Goals as goal
 

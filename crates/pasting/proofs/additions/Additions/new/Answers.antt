@@ -9,7 +9,7 @@ use Rattle.mmtext.specs.Views.{seen}
 use Rattle.mmtext.specs.declared.token.Token.{Token as CodeToken}
 use Rattle.source.specs.Scopes.{Assertion}
 use Rattle.source.specs.Views.{seen_hypothesis}
-use Rattle.expanding.specs.Forms.{AreParts}
+use Rattle.spreading.specs.Forms.{AreParts}
 use Rattle.expanding.specs.Views.{seen_scripts}
 use Rattle.pasting.specs.Additions.{added_by}
 use Rattle.pasting.specs.Views.{AreAdded, AreNoted, seen_addition}

@@ -4,7 +4,7 @@ use Rattle.std.specs.List.{AllZip, flat_map}
 use Rattle.mmsyntax.specs.Tables.{Tables}
 use Rattle.source.specs.Views.{seen_hypothesis}
 use Rattle.taking.specs.Names.{Map}
-use Rattle.expanding.specs.Forms.{Part, AreParts}
+use Rattle.spreading.specs.Forms.{Part, AreParts}
 use Rattle.expanding.specs.Views.{seen_scripts}
 use Rattle.pasting.specs.Additions.{added_by, floats_of}
 use Rattle.pasting.specs.Views.{AreNoted}

@@ -5,7 +5,7 @@ use Rattle.std.proofs.lemmas.Result.{err_from_is_err_and}
 use Rattle.mmtext.specs.Views.{seen}
 use Rattle.mmsyntax.specs.Tables.{Tables}
 use Rattle.taking.specs.Names.{Map}
-use Rattle.expanding.proofs.Parted.{more_within, some_first, part_first, parts_of, words_behind}
+use Rattle.spreading.proofs.Parted.{more_within, some_first, part_first, parts_of, words_behind}
 use Rattle.pasting.specs.Places.{places_in}
 use Rattle.pasting.specs.Pasted.{pasted, IsPasted}
 use Rattle.pasting.specs.Views.{AreKnown, IsUnpasted, places_by}

@@ -1,0 +1,4 @@
+pub mod Counted
+pub mod Parted
+pub mod Citing
+pub mod PartByPart

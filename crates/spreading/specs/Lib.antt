@@ -1,0 +1,4 @@
+pub mod Words
+pub mod Forms
+pub mod Spreading
+pub mod Views
