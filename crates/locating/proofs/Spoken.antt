@@ -1,5 +1,5 @@
 -- Words that were spoken, with those in front and behind, one after the other from both ends.
-use Rattle.std.proofs.Common.{◌≡◌, ◌∙◌, ℕ, zero, suc, ◌+◌, ◌-◌, ◌<◌, ◌≤◌, Bool, true, false, List, [], ◌∷◌, ◌++◌, length, map, take, drop, get_or, reverse, Option, Some, None, refl, sym, ap, arith, append_assoc, append-nil}
+use Rattle.std.proofs.Common.{◌≡◌, ◌∙◌, ℕ, zero, suc, ◌+◌, ◌-◌, ◌<◌, ◌≤◌, Bool, true, false, List, [], ◌∷◌, ◌++◌, length, map, take, drop, get_or, reverse, Some, None, refl, sym, ap, arith, append_assoc, append-nil}
 use Rattle.std.specs.Prelude.{find, pred, codes, if◌then◌else◌}
 use Rattle.locating.specs.Fronts.{says}
 use Rattle.std.proofs.lemmas.List.{reverse-append, take-map, drop-map, length-map, length-drop, get_or-map, take_all}

@@ -1,12 +1,12 @@
 -- What is left to show of `first_declared`.
-use Rattle.std.proofs.Common.{◌≡◌, ℕ, ◌+◌, ◌-◌, ◌<◌, ◌≤◌, Bool, true, false, List, [], length, map, take, drop, get_or, reverse, Some, sym, ap, ◌∙◌, subst as transport, arith}
-use Rattle.std.specs.Prelude.{◌&&◌, ◌||◌, ◌==◌, find}
+use Rattle.std.proofs.Common.{◌≤◌, length, map, Some, sym, ap, ◌∙◌, arith}
+use Rattle.std.specs.Prelude.{◌&&◌, ◌||◌}
 use Rattle.std.specs.Option.{option_map}
 use Rattle.std.proofs.lemmas.List.{length-map}
 use Rattle.mmtext.specs.Views.{seen}
-use Rattle.locating.specs.Fronts.{says, front_of}
-use Rattle.locating.specs.Taken.{Spoken, spoken, is_led, lists_symbols, is_float_front, declares_label, declares_symbol, is_declared, is_typed, closed_with, closed_by}
-use Rattle.locating.proofs.Spoken.{as_many, later, here, nowhere, earlier, here_last, closed_next, within, within_spoken, behind_is, one, at_words, all_spoken, none_closed, few_closed, past}
+use Rattle.locating.specs.Fronts.{says}
+use Rattle.locating.specs.Taken.{Spoken, spoken, declares_label, declares_symbol}
+use Rattle.locating.proofs.Spoken.{as_many, later, here, nowhere, within_spoken, one, at_words, past}
 use Rattle.locating.proofs.taken.first_declared.Goals as goal
 
 pub returns-then-is_declaration : goal.returns-then-is_declaration

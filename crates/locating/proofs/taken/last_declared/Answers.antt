@@ -1,12 +1,12 @@
 -- What is left to show of `last_declared`.
-use Rattle.std.proofs.Common.{◌≡◌, ℕ, suc, ◌+◌, ◌-◌, ◌<◌, ◌≤◌, Bool, true, false, List, [], length, map, take, drop, get_or, reverse, Some, sym, ap, ◌∙◌, subst as transport, arith}
+use Rattle.std.proofs.Common.{◌≡◌, ℕ, suc, ◌+◌, ◌-◌, ◌<◌, length, map, take, drop, get_or, reverse, Some, sym, ap, ◌∙◌, arith}
 use Rattle.std.specs.Prelude.{◌&&◌, ◌||◌, ◌==◌, find}
 use Rattle.std.specs.Option.{option_map}
 use Rattle.std.proofs.lemmas.List.{get_or-map}
 use Rattle.mmtext.specs.Views.{seen}
 use Rattle.locating.specs.Fronts.{says, front_of}
-use Rattle.locating.specs.Taken.{Spoken, spoken, is_led, lists_symbols, is_float_front, declares_label, declares_symbol, is_declared, is_typed, closed_with, closed_by}
-use Rattle.locating.proofs.Spoken.{as_many, later, here, nowhere, earlier, here_last, closed_next, within, within_spoken, behind_is, one, at_words, all_spoken, none_closed, few_closed, past}
+use Rattle.locating.specs.Taken.{Spoken, spoken, is_led, lists_symbols, is_declared, closed_with, closed_by}
+use Rattle.locating.proofs.Spoken.{earlier, here_last, closed_next, within, within_spoken, behind_is, one, at_words, all_spoken, none_closed, few_closed, past}
 use Rattle.locating.proofs.taken.last_declared.Goals as goal
 
 pub loop-at-init : goal.loop-at-init
