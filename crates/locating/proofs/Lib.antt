@@ -4,3 +4,4 @@ pub mod Shown
 pub mod Ended
 pub mod Signs
 pub mod Worded
+pub mod Spoken

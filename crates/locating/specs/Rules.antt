@@ -1,6 +1,6 @@
 -- The rules that a text, a source or a proof breaks, in plain words.
-use Rattle.std.specs.Prelude.{ℕ, List, [], ◌∷◌, ◌++◌, take, Option, Some, None, codes, if◌then◌else◌}
-use Rattle.std.specs.List.{find}
+use Rattle.std.specs.Prelude.{ℕ, Bool, false, nat_le, ◌&&◌, ◌||◌, ◌==◌, List, [], ◌∷◌, ◌++◌, take, Option, Some, None, codes, if◌then◌else◌}
+use Rattle.std.specs.List.{list_all}
 use Rattle.std.specs.Str.{bytes_eq}
 use Rattle.std.specs.Fmt.{decimal}
 use Rattle.mmtext.specs.Words.{Word, has_dollar}
@@ -15,7 +15,8 @@ use Rattle.derivation.specs.declared.fault.ProofFaultKind.TheVariants as proof
 use Rattle.locating.specs.declared.fronts.Part.{Part}
 use Rattle.locating.specs.declared.fronts.Part.TheVariants as part
 use Rattle.locating.specs.Lines.{line_at, column_at, word_from}
-use Rattle.locating.specs.Fronts.{says, words_of, part_at}
+use Rattle.locating.specs.Fronts.{says, words_of, front_of, part_at}
+use Rattle.locating.specs.Taken.{is_float_front, first_declared, last_declared, last_typed}
 
 -- of a text of any language
 abbrev pub rule_of : FaultKind → List ℕ
@@ -60,24 +61,44 @@ end_rule w = if bytes_eq w (codes "$.") then codes "the steps leave no entry, or
 abbrev pub rule_in_proof : Word → List ℕ → List ℕ
 rule_in_proof w rule = if has_dollar w then end_rule w else rule
 
+-- A to Z and ? (appendix B)
+abbrev pub is_letter : ℕ → Bool
+is_letter b = (nat_le 65 b && nat_le b 90) || (b == 63)
+
+abbrev pub letters_rule : Word → List ℕ
+letters_rule w =
+    if list_all is_letter w then codes "these letters name what isn't there, or take more entries than there are"
+    else codes "proofs in letters have A to Z and ? alone"
+
 abbrev pub word_rule : Part → Word → List ℕ
 word_rule part.Comment w = codes "no comment has $( or $) inside of it"
 word_rule part.Start w = rule_at_start w
 word_rule part.Keyword w = codes "behind a label stands $f, $e, $a or $p"
 word_rule part.Steps w = rule_in_proof w (codes "this step takes more entries than there are")
 word_rule part.Labels w = rule_in_proof w (codes "no label of a mandatory hypothesis stands in parentheses")
-word_rule part.Letters w = rule_in_proof w (codes "these letters name what isn't there, or take more entries than there are")
+word_rule part.Letters w = rule_in_proof w (letters_rule w)
 word_rule part.Other w = rule_of BadToken
 
--- and where a name that is taken stands first
-abbrev pub taken_rule : List ℕ → Option Token → List ℕ
-taken_rule text None = rule_of RepeatedLabel
-taken_rule text (Some t) =
-    rule_of RepeatedLabel ++ (codes ", on line " ++ (decimal (line_at text t.place) ++ (codes ", column " ++ decimal (column_at text t.place))))
+-- and where something stands that it speaks of
+abbrev pub placed_rule : List ℕ → List ℕ → Option Token → List ℕ
+placed_rule text rule None = rule
+placed_rule text rule (Some t) =
+    rule ++ (codes ", on line " ++ (decimal (line_at text t.place) ++ (codes ", column " ++ decimal (column_at text t.place))))
 
-abbrev pub first_said : Word → Option (List Token) → Option Token
-first_said w None = None
-first_said w (Some ts) = find (says w) ts
+-- a name that is taken, in a statement that begins so: the variable of a $f has one; a symbol of a $v, or any other
+abbrev pub begins_variables : List Token → Bool
+begins_variables [] = false
+begins_variables (t ∷ ts) = says (codes "$v") t
+
+abbrev pub taken_behind : List ℕ → Word → List Token → List Token → List ℕ
+taken_behind text w ts front =
+    if is_float_front front then placed_rule text (codes "this variable has a $f already") (last_typed w ts) else (
+    if begins_variables front then placed_rule text (rule_of RepeatedLabel) (last_declared w ts)
+    else placed_rule text (rule_of RepeatedLabel) (first_declared w ts))
+
+abbrev pub taken_rule : List ℕ → Word → Option (List Token) → List ℕ
+taken_rule text w None = rule_of RepeatedLabel
+taken_rule text w (Some ts) = taken_behind text w ts (front_of ts)
 
 abbrev pub include_rule : Word → List ℕ
 include_rule w =
@@ -88,7 +109,7 @@ abbrev pub rule_behind : List ℕ → Option (List Token) → Word → FaultKind
 rule_behind text front w BadByte = rule_of_bytes text
 rule_behind text front w BadToken = word_rule (part_at front) w
 rule_behind text front w OutOfProfile = include_rule w
-rule_behind text front w RepeatedLabel = taken_rule text (first_said w front)
+rule_behind text front w RepeatedLabel = taken_rule text w front
 rule_behind text front w kind = rule_of kind
 
 abbrev pub source_rule : List ℕ → TextFault → List ℕ

@@ -124,7 +124,7 @@ pub(crate) fn front_of<'t, 'a>(words: &'t [Token<'a>]) -> &'t [Token<'a>]
 }
 
 /// Whether a word stands behind a label.
-fn follows_label(token: Token<'_>) -> bool
+pub(crate) fn follows_label(token: Token<'_>) -> bool
     ensures { result ≡ follows_label (seen token.entry) }
 {
     says(b"$f", token) || says(b"$e", token) || says(b"$a", token) || says(b"$p", token)

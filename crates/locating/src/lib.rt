@@ -8,6 +8,7 @@ mod lines;
 mod rules;
 mod spot;
 mod steps;
+mod taken;
 mod telling;
 
 pub use fronts::Part;

@@ -2,11 +2,14 @@
 
 ghost use Rattle.std.specs.Prelude.{◌≡◌, IfOk, map, string_bytes};
 ghost use Rattle.std.specs.Option.{option_map};
+ghost use Rattle.std.specs.List.{list_all};
 ghost use Rattle.mmtext.specs.Views.{seen};
-ghost use Rattle.locating.specs.Rules.{rule_of, rule_of_bytes, text_rule, rule_at_start, end_rule, rule_in_proof, word_rule, taken_rule, first_said, include_rule, rule_behind, proof_rule};
+ghost use Rattle.locating.specs.Fronts.{front_of};
+ghost use Rattle.locating.specs.Rules.{rule_of, rule_of_bytes, text_rule, rule_at_start, end_rule, rule_in_proof, letters_rule, is_letter, word_rule, placed_rule, begins_variables, taken_behind, taken_rule, include_rule, rule_behind, proof_rule};
 
-use crate::fronts::{Part, part_at, says};
+use crate::fronts::{Part, front_of, part_at, says};
 use crate::lines::{column_at, line_at};
+use crate::taken::{first_declared, is_float_front, last_declared, last_typed};
 use derivation::ProofFaultKind;
 use mmtext::{FaultKind, Token, contains_dollar};
 use std::alloc::{AllocError, Global};
@@ -92,6 +95,31 @@ fn rule_in_proof(word: &[u8], rule: &'static str) -> &'static str
     }
 }
 
+/// Whether a byte may stand in a proof of letters.
+fn is_letter(byte: u8) -> bool
+    ensures { result ≡ is_letter byte }
+{
+    (byte >= b'A' && byte <= b'Z') || byte == b'?'
+}
+
+/// Whether all bytes of a word may stand in a proof of letters.
+fn are_letters(word: &[u8]) -> bool
+    ensures { result ≡ list_all is_letter word.now }
+{
+    word.iter().all(|byte| is_letter(*byte))
+}
+
+/// What a word breaks among the letters of a proof.
+fn letters_rule(word: &[u8]) -> &'static str
+    ensures { result.now ≡ letters_rule word.now }
+{
+    if are_letters(word) {
+        "these letters name what isn't there, or take more entries than there are"
+    } else {
+        "proofs in letters have A to Z and ? alone"
+    }
+}
+
 /// What a word breaks that may not stand in a part of a statement.
 fn word_rule(part: Part, word: &[u8]) -> &'static str
     ensures { result.now ≡ word_rule part word.now }
@@ -105,20 +133,21 @@ fn word_rule(part: Part, word: &[u8]) -> &'static str
             word,
             "no label of a mandatory hypothesis stands in parentheses",
         ),
-        Part::Letters => rule_in_proof(
-            word,
-            "these letters name what isn't there, or take more entries than there are",
-        ),
+        Part::Letters => rule_in_proof(word, letters_rule(word)),
         Part::Other => rule_of(FaultKind::BadToken),
     }
 }
 
-/// What a name breaks that is taken, and where it stands first, if that is known.
-fn taken_rule(alloc: Global, text: &[u8], first: Option<Token<'_>>) -> Result<String, AllocError>
-    ensures { IfOk result (λ rule. string_bytes rule ≡ taken_rule text.now (option_map seen first.entry)) }
+/// A rule, and where something stands that it speaks of, if that is known.
+fn placed_rule(
+    alloc: Global,
+    text: &[u8],
+    rule: &str,
+    spoken: Option<Token<'_>>,
+) -> Result<String, AllocError>
+    ensures { IfOk result (λ said. string_bytes said ≡ placed_rule text.now rule.now (option_map seen spoken.entry)) }
 {
-    let rule = rule_of(FaultKind::RepeatedLabel);
-    match first {
+    match spoken {
         None => Ok(String::from_str(alloc, rule)?),
         Some(token) => {
             let (line, column) = (line_at(text, token.place), column_at(text, token.place));
@@ -127,16 +156,52 @@ fn taken_rule(alloc: Global, text: &[u8], first: Option<Token<'_>>) -> Result<St
     }
 }
 
-/// Where a word stands first among some.
-fn first_said<'a>(word: &[u8], front: Option<&[Token<'a>]>) -> Option<Token<'a>>
-    ensures { option_map seen result ≡ first_said word.now (option_map (λ ws. map seen ws.now) front.entry) }
+/// Whether words of a statement are those of a `$v`.
+fn begins_variables(front: &[Token<'_>]) -> bool
+    ensures { result ≡ begins_variables (map seen front.now) }
 {
-    for token in front? {
-        if says(word, *token) {
-            return Some(*token);
-        }
+    match front.first() {
+        None => false,
+        Some(first) => says(b"$v", *first),
     }
-    None
+}
+
+/// What a name breaks that is taken behind words, of which the last are those of its statement.
+fn taken_behind(
+    alloc: Global,
+    text: &[u8],
+    name: &[u8],
+    words: &[Token<'_>],
+) -> Result<String, AllocError>
+    ensures { IfOk result (λ rule. string_bytes rule ≡ taken_behind text.now name.now (map seen words.now) (front_of (map seen words.now))) }
+{
+    let front = front_of(words);
+    if is_float_front(front) {
+        let rule = "this variable has a $f already";
+        return placed_rule(alloc, text, rule, last_typed(name, words));
+    }
+    let rule = rule_of(FaultKind::RepeatedLabel);
+    if begins_variables(front) {
+        placed_rule(alloc, text, rule, last_declared(name, words))
+    } else {
+        placed_rule(alloc, text, rule, first_declared(name, words))
+    }
+}
+
+/// What a name breaks that is taken, and where it was declared, if that is known.
+fn taken_rule(
+    alloc: Global,
+    text: &[u8],
+    name: &[u8],
+    front: Option<&[Token<'_>]>,
+) -> Result<String, AllocError>
+    ensures { IfOk result (λ rule. string_bytes rule
+        ≡ taken_rule text.now name.now (option_map (λ ws. map seen ws.now) front.entry)) }
+{
+    match front {
+        None => Ok(String::from_str(alloc, rule_of(FaultKind::RepeatedLabel))?),
+        Some(words) => taken_behind(alloc, text, name, words),
+    }
 }
 
 /// What is left out of the language.
@@ -166,7 +231,7 @@ pub(crate) fn rule_behind(
         ≡ rule_behind text.now (option_map (λ ws. map seen ws.now) front.entry) word.now kind) }
 {
     let rule = match kind {
-        FaultKind::RepeatedLabel => return taken_rule(alloc, text, first_said(word, front)),
+        FaultKind::RepeatedLabel => return taken_rule(alloc, text, word, front),
         FaultKind::BadByte => rule_of_bytes(text),
         FaultKind::BadToken => word_rule(part_at(front), word),
         FaultKind::OutOfProfile => include_rule(word),

@@ -1,3 +1,4 @@
 pub mod Verdicts
+pub mod FindingLines
 pub mod Lines
 pub mod Answers

@@ -4,6 +4,7 @@ use Rattle.std.specs.Fmt.{decimal}
 use Rattle.mmtext.specs.Words.{Word}
 use Rattle.locating.specs.Steps.{theorem_at}
 use Rattle.locating.specs.Told.{shown, labelled, told_rule, told_at, source_line, proof_line}
+use Rattle.verifytext.specs.FindingLines.{finding_lines}
 use Rattle.verifytext.specs.declared.refusal.Refusal.{Refusal}
 use Rattle.verifytext.specs.declared.refusal.Refusal.TheVariants.{Source, Proof, TooLong, NoMemory}
 
@@ -23,9 +24,10 @@ too_long_line path text label =
     told_at path text (theorem_at text label)
     (labelled (Some label) (told_rule (codes "the steps of this proof write down more than 268435456 symbols") (too_long_text label)))
 
--- behind the path of the source, and where in its text the fault is; want of memory has none
+-- behind the path of the source, and where in its text the fault is, and behind a fault of a proof what it finds; want of memory has no
+-- place
 abbrev pub refusal_line : List ℕ → List ℕ → Refusal → List ℕ
 refusal_line path text (Source fault) = source_line path text fault
-refusal_line path text (Proof label fault) = proof_line path text label.now fault
+refusal_line path text (Proof label fault finding) = proof_line path text label.now fault ++ finding_lines finding
 refusal_line path text (TooLong label) = too_long_line path text label.now
 refusal_line path text NoMemory = codes "no memory"

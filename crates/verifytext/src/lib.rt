@@ -18,6 +18,7 @@
 #![tactic(auto)]
 
 mod answering;
+mod finding_lines;
 mod refusal;
 mod verifying_text;
 mod wording;

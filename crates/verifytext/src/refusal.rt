@@ -1,16 +1,16 @@
 //! Why a source isn't said to verify.
 
 use derivation::ProofFault;
+use explaining::Finding;
 use mmtext::{FaultKind, TextFault};
-use sourcecheck::Unverified;
 
 /// Why a source isn't said to verify.
-#[derive(Clone, Copy, Debug)]
+#[derive(Debug, Drop)]
 pub enum Refusal<'a> {
     /// The text declares no source: its fault.
     Source(TextFault),
-    /// The label of the first theorem whose proof has a fault, and the first fault of that proof.
-    Proof(&'a [u8], ProofFault),
+    /// The label of the first theorem whose proof has a fault, the first fault of that proof, and what the step at fault finds.
+    Proof(&'a [u8], ProofFault, Finding<'a>),
     /// The label of a theorem whose proof makes expressions of over 268,435,456 symbols.
     TooLong(&'a [u8]),
     /// Memory ran out.
@@ -31,20 +31,5 @@ impl<'a> From<TextFault> for Refusal<'a> {
             return Refusal::NoMemory;
         }
         Refusal::Source(fault)
-    }
-}
-
-impl<'a> From<Unverified<'a>> for Refusal<'a> {
-    ghost use Rattle.std.specs.Prelude.{◌≡◌};
-    ghost use Rattle.verifytext.specs.Verdicts.{refusal_of};
-
-    ghost from_gives = { λ unverified why. why ≡ refusal_of unverified };
-
-    fn from(unverified: Unverified<'a>) -> Refusal<'a> {
-        match unverified {
-            Unverified::Fault(label, fault) => Refusal::Proof(label, fault),
-            Unverified::TooLong(label) => Refusal::TooLong(label),
-            Unverified::NoMemory => Refusal::NoMemory,
-        }
     }
 }

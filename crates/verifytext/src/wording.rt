@@ -3,6 +3,7 @@
 ghost use Rattle.std.specs.Prelude.{◌≡◌, IfOk, string_bytes};
 ghost use Rattle.verifytext.specs.Lines.{ok_line, too_long_line, refusal_line};
 
+use crate::finding_lines::finding_lines;
 use crate::refusal::Refusal;
 use crate::verifying_text::Verified;
 use locating::{printed_name, proof_line, source_line, theorem_at, told_line};
@@ -34,7 +35,8 @@ fn too_long_line(alloc: Global, path: &str, text: &[u8], label: &[u8]) -> Result
     told_line(alloc, path, text, spot, Some(label), rule, known.as_str())
 }
 
-/// The line of a refusal, behind the path of the source, and where in its text the fault is: want of memory has none.
+/// The line of a refusal, behind the path of the source, and where in its text the fault is, and behind a fault of a proof what it finds:
+/// want of memory has no place.
 pub fn refusal_line(
     alloc: Global,
     path: &str,
@@ -45,7 +47,11 @@ pub fn refusal_line(
 {
     match why {
         Refusal::Source(fault) => source_line(alloc, path, text, fault),
-        Refusal::Proof(label, fault) => proof_line(alloc, path, text, label, fault),
+        Refusal::Proof(label, fault, finding) => {
+            let mut line = proof_line(alloc, path, text, label, fault)?;
+            line.push_str(finding_lines(alloc, &finding)?.as_str())?;
+            Ok(line)
+        }
         Refusal::TooLong(label) => too_long_line(alloc, path, text, label),
         Refusal::NoMemory => format!(in alloc; "no memory"),
     }
