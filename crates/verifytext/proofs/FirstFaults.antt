@@ -12,7 +12,7 @@ use Rattle.derivation.specs.declared.fault.ProofFault.{ProofFault}
 use Rattle.source.specs.Scopes.{Assertion, Scope}
 use Rattle.source.specs.Whole.{IsWhole}
 use Rattle.verifying.specs.Faults.{fault_of, first_fault, fault_in}
-use Rattle.sourcecheck.proofs.Framed.{placed_map}
+use Rattle.sourceframes.proofs.Framed.{placed_map}
 
 -- an assertion behind earlier ones has the fault
 pub record HasFault (earlier xs : List Assertion) (label : Word) (fault : ProofFault) : Type 0 where
