@@ -43,6 +43,13 @@ pub(crate) enum Outcome<'a> {
     Fails(Explained<'a>),
 }
 
+/// A theorem, and the labels that the numbers of its proof count.
+#[derive(Drop)]
+pub(crate) struct Listed<'x, 'a> {
+    pub(crate) theorem: &'x AssertionWords<'a>,
+    pub(crate) labels: &'x [&'a [u8]],
+}
+
 /// Whether a hypothesis has a label.
 fn has_label(hypothesis: &HypothesisWords<'_>, label: &[u8]) -> bool
     ensures { result ≡ bytes_eq label.now (label_of (seen_hypothesis hypothesis.now)) }
@@ -155,15 +162,16 @@ fn take_number<'a, D: Declared<'a>>(
     alloc: Global,
     declared: &D,
     place: usize,
-    theorem: &AssertionWords<'a>,
-    labels: &[&'a [u8]],
+    listed: &Listed<'_, 'a>,
     number: usize,
     stack: &mut Entries<'a>,
 ) -> Result<Turn<'a>, AllocError>
-    ensures { let x = seen_assertion theorem.now in let earlier = take place (D.scope declared.now).assertions in
-        IfOk result (Turns earlier x (numbered (seen_words labels.now) number) (seen_stack stack.old) (seen_stack stack.new)) }
+    ensures { let x = seen_assertion listed.now.theorem.now in let earlier = take place (D.scope declared.now).assertions in
+        IfOk result (Turns earlier x (numbered (seen_words listed.now.labels.now) number) (seen_stack stack.old) (seen_stack stack.new)) }
 {
+    let labels = listed.labels;
     if number < labels.len() {
+        let theorem = listed.theorem;
         return take_label(alloc, declared, place, theorem, labels[number], stack);
     }
     if stack.repeat(alloc, number - labels.len())? {
@@ -190,19 +198,18 @@ fn take_code<'a, D: Declared<'a>>(
     alloc: Global,
     declared: &D,
     place: usize,
-    theorem: &AssertionWords<'a>,
-    labels: &[&'a [u8]],
+    listed: &Listed<'_, 'a>,
     code: Code,
     stack: &mut Entries<'a>,
 ) -> Result<Turn<'a>, AllocError>
-    ensures { let x = seen_assertion theorem.now in let earlier = take place (D.scope declared.now).assertions in
+    ensures { let x = seen_assertion listed.now.theorem.now in let earlier = take place (D.scope declared.now).assertions in
         is_absent code ≡ false
-        → IfOk result (Turns earlier x (step_of (seen_words labels.now) code) (seen_stack stack.old) (seen_stack stack.new)) }
+        → IfOk result (Turns earlier x (step_of (seen_words listed.now.labels.now) code) (seen_stack stack.old) (seen_stack stack.new)) }
 {
     match code {
         Code::Number(number) => {
             let number = number.saturating_sub(1) as usize;
-            take_number(alloc, declared, place, theorem, labels, number, stack)
+            take_number(alloc, declared, place, listed, number, stack)
         }
         Code::Mark => take_mark(alloc, stack),
         Code::Unknown => Ok(Turn::Absent),
@@ -255,22 +262,21 @@ pub(crate) fn take_codes<'a, D: Declared<'a>>(
     alloc: Global,
     declared: &D,
     place: usize,
-    theorem: &AssertionWords<'a>,
-    labels: &[&'a [u8]],
+    listed: &Listed<'_, 'a>,
     codes: &[Code],
 ) -> Result<Outcome<'a>, AllocError>
-    ensures { let x = seen_assertion theorem.now in let earlier = take place (D.scope declared.now).assertions in
-        list_any is_absent codes.now ≡ false → IfOk result (Tells earlier x (map (step_of (seen_words labels.now)) codes.now)) }
+    ensures { let x = seen_assertion listed.now.theorem.now in let earlier = take place (D.scope declared.now).assertions in
+        list_any is_absent codes.now ≡ false → IfOk result (Tells earlier x (map (step_of (seen_words listed.now.labels.now)) codes.now)) }
 {
     let mut stack = Entries::new(alloc);
     let mut step = 0;
     for code in codes {
         step = count(step, *code);
-        match take_code(alloc, declared, place, theorem, labels, *code, &mut stack)? {
+        match take_code(alloc, declared, place, listed, *code, &mut stack)? {
             Turn::Passes => {}
             Turn::Absent => return Ok(Outcome::Absent),
             Turn::Fails(finding) => return Ok(Outcome::Fails(Explained { step, finding })),
         }
     }
-    end(alloc, theorem, &mut stack, step)
+    end(alloc, listed.theorem, &mut stack, step)
 }

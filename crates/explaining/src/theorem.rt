@@ -12,7 +12,7 @@ ghost use Rattle.explaining.specs.Shown.{Tells};
 
 use crate::assertion::assertion_at;
 use crate::finding::Explained;
-use crate::stepping::{Outcome, take_codes};
+use crate::stepping::{Listed, Outcome, take_codes};
 use source::{Declared, ProofWords};
 use std::alloc::{AllocError, Global};
 use taking::{Counted, count_labels, is_unfinished};
@@ -31,14 +31,11 @@ fn take_counted<'a, D: Declared<'a>>(
         outcome) }
 {
     let theorem = assertion_at(alloc, declared, place)?;
-    take_codes(
-        alloc,
-        declared,
-        place,
-        &theorem,
-        counted.labels.as_slice(),
-        counted.codes.as_slice(),
-    )
+    let listed = Listed {
+        theorem: &theorem,
+        labels: counted.labels.as_slice(),
+    };
+    take_codes(alloc, declared, place, &listed, counted.codes.as_slice())
 }
 
 /// What comes of a finished proof of the assertion at a place.

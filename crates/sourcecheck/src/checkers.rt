@@ -42,7 +42,6 @@ pub(crate) struct Framed<'s, 'a> {
 
 /// What is found at one place, by who has these numbers of words, or none as memory was wanting. After a fault nothing is said of them.
 fn found_at<'a, D: Declared<'a>>(
-    alloc: Global,
     own: &mut Option<Table<'a>>,
     room: &mut Stack,
     frames: &[Frame],
@@ -58,7 +57,7 @@ fn found_at<'a, D: Declared<'a>>(
     let Some(table) = own else {
         return Some((place, fault(ProofFaultKind::NoMemory)));
     };
-    match check_theorem(alloc, table, room, frames, declared, place) {
+    match check_theorem(table, room, frames, declared, place) {
         Ok(()) => None,
         Err(fault) => Some((place, fault)),
     }
@@ -84,14 +83,7 @@ fn check_claimed(
     while let Some(place) = checker.claimant.claim(numbers) {
         follow.pass_assertion();
         if checker.found.is_none() {
-            checker.found = found_at(
-                alloc,
-                &mut own,
-                &mut room,
-                framed.frames,
-                framed.declared,
-                place,
-            );
+            checker.found = found_at(&mut own, &mut room, framed.frames, framed.declared, place);
         }
     }
 }

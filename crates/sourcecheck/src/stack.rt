@@ -124,11 +124,16 @@ impl Stack {
         }
     }
 
+    /// Where its memory comes from.
+    pub(crate) fn alloc(&self) -> Global {
+        *self.symbols.allocator()
+    }
+
     /// Nothing stands, over the room of this stack, which has none any more.
     pub(crate) fn take_room(&mut self) -> Stack
         ensures { result ≡ record { stack = record { entries = []; marked = [] }; written = 0 } }
     {
-        let none = Stack::new(*self.symbols.allocator());
+        let none = Stack::new(self.alloc());
         let mut taken = mem::replace(self, none);
         taken.symbols.clear();
         taken.spans.clear();

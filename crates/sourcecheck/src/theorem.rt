@@ -17,7 +17,6 @@ use crate::stepping::take_codes;
 use derivation::{ProofFault, ProofFaultKind};
 use source::{Declared, ProofWords};
 use sourceframes::{Frame, Table, thesis_of};
-use std::alloc::Global;
 use taking::{Counted, count_labels, is_unfinished};
 
 /// A fault that no step has.
@@ -29,7 +28,6 @@ pub(crate) fn fault(kind: ProofFaultKind) -> ProofFault
 
 /// Checks the steps of a finished proof of the assertion at a place. After an error nothing is said of the table.
 fn check_counted<'a, D: Declared<'a>>(
-    alloc: Global,
     table: &mut Table<'a>,
     room: &mut Stack,
     frames: &[Frame],
@@ -48,6 +46,7 @@ fn check_counted<'a, D: Declared<'a>>(
         → Tells (take place (D.scope declared.now).assertions) x (map (step_of (seen_words counted.entry.labels.items)) counted.entry.codes)
         result }
 {
+    let alloc = room.alloc();
     let Some(statement) = declared.statement(place) else {
         unreachable!()
     };
@@ -76,7 +75,6 @@ fn check_counted<'a, D: Declared<'a>>(
 
 /// Checks a finished proof of the assertion at a place. After an error nothing is said of the table.
 fn check_proof<'a, D: Declared<'a>>(
-    alloc: Global,
     table: &mut Table<'a>,
     room: &mut Stack,
     frames: &[Frame],
@@ -94,13 +92,14 @@ fn check_proof<'a, D: Declared<'a>>(
         → is_unfinished (seen_proof proof.now) ≡ false
         → TellsProof (take place (D.scope declared.now).assertions) x (seen_proof proof.now) result }
 {
+    let alloc = room.alloc();
     let Ok(mandatory) = declared.mandatory(alloc, place) else {
         return Err(fault(ProofFaultKind::NoMemory));
     };
     match count_labels(alloc, mandatory, proof) {
         Err(_) => Err(fault(ProofFaultKind::NoMemory)),
         Ok(None) => Err(fault(ProofFaultKind::UnknownStep)),
-        Ok(Some(counted)) => check_counted(alloc, table, room, frames, declared, place, counted),
+        Ok(Some(counted)) => check_counted(table, room, frames, declared, place, counted),
     }
 }
 
@@ -112,7 +111,6 @@ fn check_proof<'a, D: Declared<'a>>(
 /// The first fault of its proof. The kinds `NoMemory` and `TooLong` say that memory ran out, or that the steps of the proof write down over
 /// 2^28 symbols.
 pub(crate) fn check_theorem<'a, D: Declared<'a>>(
-    alloc: Global,
     table: &mut Table<'a>,
     room: &mut Stack,
     frames: &[Frame],
@@ -134,5 +132,5 @@ pub(crate) fn check_theorem<'a, D: Declared<'a>>(
     if is_unfinished(proof) {
         return Ok(());
     }
-    check_proof(alloc, table, room, frames, declared, place, proof)
+    check_proof(table, room, frames, declared, place, proof)
 }

@@ -17,8 +17,8 @@ use Rattle.explaining.proofs.stepping.take_codes.Goals as goal
 pub returns-in-Absent : goal.returns-in-Absent
 returns-in-Absent g c = λ there.
     let earlier = take c.args.place (g.D.Declared.scope c.args.declared.now).assertions in
-    let x = seen_assertion c.args.theorem.now in
-    let labels = seen_words c.args.labels.now in
+    let x = seen_assertion c.args.listed.now.theorem.now in
+    let labels = seen_words c.args.listed.now.labels.now in
     let codes = c.args.codes.now in
     let i = c.loop-code.code-index in
     let before = c.loop-code.invariant.reached there in
@@ -36,8 +36,8 @@ returns-in-Absent g c = λ there.
 pub returns-in-Fails : goal.returns-in-Fails
 returns-in-Fails g c = λ there.
     let earlier = take c.args.place (g.D.Declared.scope c.args.declared.now).assertions in
-    let x = seen_assertion c.args.theorem.now in
-    let labels = seen_words c.args.labels.now in
+    let x = seen_assertion c.args.listed.now.theorem.now in
+    let labels = seen_words c.args.listed.now.labels.now in
     let codes = c.args.codes.now in
     let i = c.loop-code.code-index in
     let before = c.loop-code.invariant.reached there in
@@ -57,8 +57,8 @@ loop-code-preserved g c = record {
   few = omega (arith, c.loop-code.invariant.few, c.count-step.ensures.few);
   reached = λ there.
       let earlier = take c.args.place (g.D.Declared.scope c.args.declared.now).assertions in
-      let x = seen_assertion c.args.theorem.now in
-      let labels = seen_words c.args.labels.now in
+      let x = seen_assertion c.args.listed.now.theorem.now in
+      let labels = seen_words c.args.listed.now.labels.now in
       let codes = c.args.codes.now in
       let i = c.loop-code.code-index in
       let before = c.loop-code.invariant.reached there in
@@ -77,8 +77,8 @@ loop-code-preserved g c = record {
 pub returns : goal.returns
 returns g c = λ there.
     let earlier = take c.args.place (g.D.Declared.scope c.args.declared.now).assertions in
-    let x = seen_assertion c.args.theorem.now in
-    let labels = seen_words c.args.labels.now in
+    let x = seen_assertion c.args.listed.now.theorem.now in
+    let labels = seen_words c.args.listed.now.labels.now in
     let codes = c.args.codes.now in
     let whole : Reached earlier x (map (step_of labels) codes) (seen_stack c.loop-code.stack) c.loop-code.step =
     transport (λ (cs : List Code). Reached earlier x (map (step_of labels) cs) (seen_stack c.loop-code.stack) c.loop-code.step)

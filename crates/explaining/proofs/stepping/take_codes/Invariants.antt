@@ -11,6 +11,6 @@ abbrev pub invariant-loop-code : goal.invariant-loop-code
 invariant-loop-code g l = record {
   few : l.step ≤ l.code-index;
   reached : list_any is_absent l.codes ≡ false
-      → Reached (take l.place (g.D.Declared.scope l.declared).assertions) (seen_assertion l.theorem)
-      (map (step_of (seen_words l.labels)) (take l.code-index l.codes)) (seen_stack l.stack) l.step;
+      → Reached (take l.place (g.D.Declared.scope l.declared).assertions) (seen_assertion l.listed.theorem.now)
+      (map (step_of (seen_words l.listed.labels.now)) (take l.code-index l.codes)) (seen_stack l.stack) l.step;
 }

@@ -14,8 +14,8 @@ use Rattle.explaining.proofs.stepping.take_number.Goals as goal
 pub returns-then-number-labels : goal.returns-then-number-labels
 returns-then-number-labels g c =
     let earlier = take c.args.place (g.D.Declared.scope c.args.declared.now).assertions in
-    let x = seen_assertion c.args.theorem.now in
-    let labels = c.args.labels.now in
+    let x = seen_assertion c.args.listed.now.theorem.now in
+    let labels = c.args.listed.now.labels.now in
     let k = c.args.number in
     let long : length (seen_words labels) ≡ length labels = length-map labels (λ (w : Bor (List ℕ)). w.now) in
     let lt : k < length (seen_words labels) = omega (arith, long, c.if-number-labels.true) in
@@ -27,8 +27,8 @@ returns-then-number-labels g c =
 pub returns-then-branch : goal.returns-then-branch
 returns-then-branch g c =
     let earlier = take c.args.place (g.D.Declared.scope c.args.declared.now).assertions in
-    let x = seen_assertion c.args.theorem.now in
-    let labels = c.args.labels.now in
+    let x = seen_assertion c.args.listed.now.theorem.now in
+    let labels = c.args.listed.now.labels.now in
     let k = c.args.number in
     let old = seen_stack c.args.stack.now in
     let long : length (seen_words labels) ≡ length labels = length-map labels (λ (w : Bor (List ℕ)). w.now) in
@@ -41,8 +41,8 @@ returns-then-branch g c =
 pub returns-else-branch : goal.returns-else-branch
 returns-else-branch g c =
     let earlier = take c.args.place (g.D.Declared.scope c.args.declared.now).assertions in
-    let x = seen_assertion c.args.theorem.now in
-    let labels = c.args.labels.now in
+    let x = seen_assertion c.args.listed.now.theorem.now in
+    let labels = c.args.listed.now.labels.now in
     let k = c.args.number in
     let old = seen_stack c.args.stack.now in
     let long : length (seen_words labels) ≡ length labels = length-map labels (λ (w : Bor (List ℕ)). w.now) in
