@@ -111,7 +111,8 @@ module _ (earlier : List Assertion) (x : Assertion) where
 
     module _ (s : Entries) (front es : List (Vec (Bor (List ℕ)))) (parts : s.entries.items ≡ front ++ es)
         (many : length es ≡ length c.hypotheses) where
-      comes_off : pop c.hypotheses (seen_stack s).entries [] ≡ Some (map (λ e. Ok e) (map seen_expression es), reverse (map seen_entry front))
+      comes_off : pop c.hypotheses (seen_stack s).entries []
+          ≡ Some (map (λ e. Ok e) (map seen_expression es), reverse (map seen_entry front))
       comes_off =
           let off = map seen_entry es in
           let below = reverse (map seen_entry front) in

@@ -90,7 +90,8 @@ pub record FindsStatement (earlier : List Assertion) (x : Assertion) (steps : Li
 
 -- what steps of a proof of x find at that with a number, or at their end
 abbrev pub IsFound : List Assertion → Assertion → List Step → ℕ → Finding → Type 0
-IsFound earlier x steps n (StatementDiffers wanted found) = FindsStatement earlier x steps (seen_words wanted.items) (seen_words found.items)
+IsFound earlier x steps n (StatementDiffers wanted found) =
+    FindsStatement earlier x steps (seen_words wanted.items) (seen_words found.items)
 IsFound earlier x steps n finding =
     (c : Assertion) × (es : List Expression) × IsCitation earlier x steps n c es × Finds x c es finding
 

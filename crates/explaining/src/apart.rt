@@ -108,7 +108,8 @@ fn first_beside<'a>(
     variable: &[u8],
     others: &[&'a [u8]],
 ) -> Option<&'a [u8]>
-    ensures { option_map (λ w. w.now) result ≡ find (λ v. not (symbols_apart (seen_assertion theorem.now) variable.now v)) (seen_words others.now) }
+    ensures { option_map (λ w. w.now) result
+        ≡ find (λ v. not (symbols_apart (seen_assertion theorem.now) variable.now v)) (seen_words others.now) }
 {
     for other in others {
         if !are_symbols_apart(theorem, variable, *other) {

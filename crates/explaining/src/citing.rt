@@ -31,7 +31,8 @@ fn test_types<'a>(
     filled: &[Filled<'a>],
 ) -> Result<Option<Finding<'a>>, AllocError>
     ensures { IfOk result (λ found. (x : Assertion) (hs : List Hypothesis) (es : List Expression)
-        → map seen_filled filled.now ≡ zip hs es → let c = with_hypotheses cited.now hs in Tests x c es (types_fit c es) kind.WrongType found) }
+        → map seen_filled filled.now ≡ zip hs es → let c = with_hypotheses cited.now hs in
+        Tests x c es (types_fit c es) kind.WrongType found) }
 {
     let Some(part) = first_untyped(filled) else {
         return Ok(None);

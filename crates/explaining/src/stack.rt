@@ -60,7 +60,8 @@ impl<'a> Entries<'a> {
         Ok(true)
     }
 
-    /// So many of the last expressions come off, if they are there, the first of them in front. After an error nothing is said of the stack.
+    /// So many of the last expressions come off, if they are there, the first of them in front. After an error nothing is said of the
+    /// stack.
     pub(crate) fn take(&mut self, many: usize) -> Result<Option<Vec<Vec<&'a [u8]>>>, AllocError>
         ensures { IfOk result (λ taken. MatchOption taken (length self.old.entries.items < many)
             (λ es. (self.old.entries.items ≡ self.new.entries.items ++ es.items) × (length es.items ≡ many)

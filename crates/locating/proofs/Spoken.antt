@@ -16,7 +16,8 @@ spoken_at front [] i d t lt = absurd (omega arith)
 spoken_at front (u ∷ ts) zero d t lt = ap (λ l. record { front = l; word = u; behind = ts }) (sym (append-nil front))
 spoken_at front (u ∷ ts) (suc i) d t lt =
     let e : i + 1 + 1 ≡ suc i + 1 = omega arith in
-    let far : drop (i + 1) ts ≡ drop (suc i + 1) (u ∷ ts) = ap (λ n. drop n (u ∷ ts)) (let f : suc (i + 1) ≡ suc i + 1 = omega arith in f) in
+    let next : suc (i + 1) ≡ suc i + 1 = omega arith in
+    let far : drop (i + 1) ts ≡ drop (suc i + 1) (u ∷ ts) = ap (λ n. drop n (u ∷ ts)) next in
     spoken_at (front ++ u ∷ []) ts i d t (omega arith)
     ∙ ap (λ l. record { front = l; word = get_or ts i t; behind = drop (i + 1) ts }) (append_assoc front (u ∷ []) (take i ts))
     ∙ ap (λ l. record { front = front ++ u ∷ take i ts; word = get_or ts i t; behind = l }) far
@@ -82,7 +83,8 @@ module _ {A : Type 0} (p : A → Bool) (xs : List A) (i : ℕ) where
 
 -- ---- what words close
 
-pub closed_next : (ts : List Token) (i : ℕ) (t : Token) → i < length ts → closed_by (drop i ts) ≡ closed_with (get_or ts i t) (closed_by (drop (i + 1) ts))
+pub closed_next : (ts : List Token) (i : ℕ) (t : Token) → i < length ts
+    → closed_by (drop i ts) ≡ closed_with (get_or ts i t) (closed_by (drop (i + 1) ts))
 closed_next ts i t lt = ap closed_by (dropped ts i t lt)
 
 pred_small : (n : ℕ) → pred n ≤ suc n

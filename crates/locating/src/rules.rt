@@ -173,7 +173,8 @@ fn taken_behind(
     name: &[u8],
     words: &[Token<'_>],
 ) -> Result<String, AllocError>
-    ensures { IfOk result (λ rule. string_bytes rule ≡ taken_behind text.now name.now (map seen words.now) (front_of (map seen words.now))) }
+    ensures { let ts = map seen words.now in
+        IfOk result (λ rule. string_bytes rule ≡ taken_behind text.now name.now ts (front_of ts)) }
 {
     let front = front_of(words);
     if is_float_front(front) {

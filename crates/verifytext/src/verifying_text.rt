@@ -70,8 +70,8 @@ fn refusal_of<'a>(alloc: Global, scopes: &Scopes<'a>, why: Unverified<'a>) -> Re
 ///
 /// # Errors
 ///
-/// The first theorem in the order of the source whose proof has a fault, with its first step at fault and what that finds; or want of memory
-/// at any time.
+/// The first theorem in the order of the source whose proof has a fault, with its first step at fault and what that finds; or want of
+/// memory at any time.
 pub fn verify_read<'a>(
     rt: &(impl Threads + Sync),
     alloc: Global,

@@ -10,5 +10,6 @@ use Rattle.explaining.proofs.apart.first_meeting.Given as goal
 
 abbrev pub invariant-loop-variable : goal.invariant-loop-variable
 invariant-loop-variable l =
-    find (λ u. not (list_all (symbols_apart (seen_assertion l.theorem) u) (seen_words l.others))) (seen_words (drop l.variable-index l.variables))
+    find (λ u. not (list_all (symbols_apart (seen_assertion l.theorem) u) (seen_words l.others)))
+    (seen_words (drop l.variable-index l.variables))
     ≡ find (λ u. not (list_all (symbols_apart (seen_assertion l.theorem) u) (seen_words l.others))) (seen_words l.variables)

@@ -40,7 +40,8 @@ unreachable-requires c =
     ap seen_words (c.as_slice-2.ensures.value ∙ c.in_ok-for_first.ensures.items) ∙ c.replacement.ensures in
     let second : seen_words c.as_slice-3.result.now ≡ replacement s c.in-Some.second.now =
     ap seen_words (c.as_slice-3.ensures.value ∙ c.in_ok-for_second.ensures.items) ∙ c.replacement-2.ensures in
-    let met : AreMeeting x (variables_in x (seen_words c.as_slice-2.result.now)) (variables_in x (seen_words c.as_slice-3.result.now)) None =
+    let met : AreMeeting x (variables_in x (seen_words c.as_slice-2.result.now)) (variables_in x (seen_words c.as_slice-3.result.now))
+    None =
     transport (λ (o : Option (Bor (List ℕ) × Bor (List ℕ))).
     AreMeeting x (variables_in x (seen_words c.as_slice-2.result.now)) (variables_in x (seen_words c.as_slice-3.result.now)) o) c.in-None.is
     c.in_ok-one.ensures in
@@ -65,7 +66,8 @@ returns c = λ hs es is.
     let met : AreMeeting x (variables_in x (seen_words c.as_slice-2.result.now)) (variables_in x (seen_words c.as_slice-3.result.now))
     (Some (c.in-Some-2.one, c.in-Some-2.other)) =
     transport (λ (o : Option (Bor (List ℕ) × Bor (List ℕ))).
-    AreMeeting x (variables_in x (seen_words c.as_slice-2.result.now)) (variables_in x (seen_words c.as_slice-3.result.now)) o) c.in-Some-2.is
+    AreMeeting x (variables_in x (seen_words c.as_slice-2.result.now)) (variables_in x (seen_words c.as_slice-3.result.now)) o)
+    c.in-Some-2.is
     c.in_ok-one.ensures in
     let here : AreMeeting x (variables_in x (seen_words c.in_ok-for_first.for_first.items))
     (variables_in x (seen_words c.in_ok-for_second.for_second.items)) (Some (c.in-Some-2.one, c.in-Some-2.other)) =

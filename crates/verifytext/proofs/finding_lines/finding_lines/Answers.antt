@@ -1,5 +1,5 @@
 -- What is left to show of `finding_lines`.
-use Rattle.std.proofs.Common.{◌≡◌, ℕ, List, ◌++◌, string_bytes, ap, sym, ◌∙◌}
+use Rattle.std.proofs.Common.{◌≡◌, ◌++◌, string_bytes, ap, sym, ◌∙◌}
 use Rattle.std.proofs.lemmas.Result.{IfOk-weaker}
 use Rattle.source.specs.Views.{seen_words}
 use Rattle.verifytext.specs.FindingLines.{keeps_apart, put_for, not_apart, finding_lines}

@@ -1,5 +1,5 @@
 -- What is left to show of `first_symbols`.
-use Rattle.std.proofs.Common.{ℕ, List, map, ap, sym, ◌∙◌}
+use Rattle.std.proofs.Common.{ℕ, List, ap, sym, ◌∙◌}
 use Rattle.std.specs.Borrow.{Bor}
 use Rattle.std.proofs.lemmas.List.{take-map}
 use Rattle.source.specs.Views.{seen_words}

@@ -1,6 +1,5 @@
 -- What is left to show of `spaced`.
-use Rattle.std.proofs.Common.{ℕ, List, ◌∷◌, ◌++◌, ap, sym, ◌∙◌}
-use Rattle.std.specs.Borrow.{Bor}
+use Rattle.std.proofs.Common.{◌∷◌, ◌++◌, ap, sym, ◌∙◌}
 use Rattle.std.specs.List.{flat_map}
 use Rattle.source.specs.Views.{seen_words}
 use Rattle.locating.specs.Told.{shown}
