@@ -240,7 +240,8 @@ module _ (s : Scope) (scripts : List (List Token)) (cs : List Command) where
         record {
           bar = record { script = c.script; label = label; reach = Some (h.from, h.to) };
           is = move_bars c label place h;
-          bars_it = three_from (nat_lt h.from place && nat_le place h.to) (cites label.text (proof_at s place)) (is_moved_once cs label.text)
+          bars_it =
+              three_from (nat_lt h.from place && nat_le place h.to) (cites label.text (proof_at s place)) (is_moved_once cs label.text)
               reached
               cited once;
           script_is = refl;

@@ -33,6 +33,7 @@ loop-bar-preserved g c = λ asked cs watch.
           ∙ ap (filter_map f) (sym more)))
       | in_default w ↦
           ap (λ v. map seen_barred v.items) w.all-is
-          ∙ (gathered_none seen_barred f front x c.loop-bar.all.items so_far (no_view seen_barred c.first_barred.result w.in_default.not-Some ∙ is)
+          ∙ (gathered_none seen_barred f front x c.loop-bar.all.items so_far
+          (no_view seen_barred c.first_barred.result w.in_default.not-Some ∙ is)
           ∙ ap (filter_map f) (sym more))
     ]
