@@ -1,5 +1,5 @@
 -- Of the code's inside, apart from the rules: how contracts see scripts on the way to those that are run, and what is begun with.
-use Rattle.std.specs.Prelude.{◌≡◌, ℕ, Bool, false, List, [], map, All}
+use Rattle.std.specs.Prelude.{◌≡◌, ℕ, Bool, List, [], map, All}
 use Rattle.mmtext.specs.Text.{Token}
 use Rattle.source.specs.Scopes.{Scope}
 use Rattle.library.specs.Fitting.{CommandFits}

@@ -12,8 +12,8 @@ use Rattle.mmtext.specs.declared.fault.TextFault.{TextFault}
 use Rattle.source.specs.Scopes.{Scope}
 use Rattle.checking.specs.Checks.{Bytes}
 use Rattle.spreading.specs.Words.{word_language}
-use Rattle.spreading.specs.Spreading.{Misfit, IsSpread, IsSpreadWith}
-use Rattle.expanding.specs.Barred.{Barred, barred_by, IsBarred, AreAllBarred}
+use Rattle.spreading.specs.Spreading.{IsSpread, IsSpreadWith}
+use Rattle.expanding.specs.Barred.{barred_by, AreAllBarred}
 use Rattle.expanding.specs.Discouraged.{Discouraged, AreDiscouraged}
 use Rattle.editscripts.specs.Undone.{each_from}
 use Rattle.editscripts.specs.Encouraged.{remarked_in, AreFree, AreEncouraged, AreAllowed}

@@ -1,7 +1,7 @@
 -- What is left to show of `begin`.
 use Rattle.std.proofs.Common.{◌≡◌, ◌∙◌, [], rules, Bool, List, length, map, inl, inr, refl, sym, ap, subst, Vec, Global}
 use Rattle.std.proofs.lemmas.List.{length-map}
-use Rattle.std.specs.Prelude.{◌⊎◌, All}
+use Rattle.std.specs.Prelude.{All}
 use Rattle.std.proofs.lemmas.Result.{err_from_is_err_and}
 use Rattle.mmtext.specs.declared.token.Token.{Token as CodeToken}
 use Rattle.mmsyntax.specs.Tables.{Tables}

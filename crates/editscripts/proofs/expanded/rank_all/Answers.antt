@@ -1,5 +1,5 @@
 -- What is left to show of `rank_all`.
-use Rattle.std.proofs.Common.{◌≡◌, ◌∙◌, ◌+◌, ◌++◌, ◌∷◌, [], length, map, refl, ap, subst, Vec, Global}
+use Rattle.std.proofs.Common.{◌+◌, ◌++◌, ◌∷◌, [], length, map, refl, subst, Vec, Global}
 use Rattle.std.specs.Prelude.{slice_index_or}
 use Rattle.std.proofs.lemmas.Option.{slice_get_read}
 use Rattle.mmtext.specs.Views.{seen}

@@ -1,5 +1,5 @@
 -- What is left to show of `put_discouraged`.
-use Rattle.std.proofs.Common.{◌≡◌, ◌∙◌, ◌++◌, ℕ, false, List, map, sym, ap, subst}
+use Rattle.std.proofs.Common.{◌∙◌, ◌++◌, ℕ, false, List, map, sym, ap, subst}
 use Rattle.std.proofs.lemmas.List.{take_all}
 use Rattle.source.specs.Views.{seen_words}
 use Rattle.items.proofs.Sourced.{declares_divided}

@@ -1,5 +1,5 @@
 -- What is left to show of `words_of`.
-use Rattle.std.proofs.Common.{◌<◌, ℕ, List, length, map, refl, subst, arith, Vec, Global}
+use Rattle.std.proofs.Common.{◌<◌, ℕ, List, length, refl, subst, arith, Vec, Global}
 use Rattle.std.proofs.lemmas.List.{length-map}
 use Rattle.std.proofs.lemmas.Option.{slice_get_read}
 use Rattle.editscripts.specs.Faults.{IsReading}
