@@ -13,7 +13,8 @@ use Rattle.editscripts.specs.Views.{seen_fault, seen_lines}
 use Rattle.editscripts.specs.declared.faults.ScriptFault.{ScriptFault as CodeFault}
 
 pub rest_one : (n : ℕ) → 0 < n → (lines : List (String Global)) (line : String Global)
-    → string_bytes line ≡ decimal n ++ codes " more faults of the scripts" → seen_lines (lines ++ line ∷ []) ≡ seen_lines lines ++ rest_lines n
+    → string_bytes line ≡ codes "faults of the scripts that are not shown: " ++ decimal n
+    → seen_lines (lines ++ line ∷ []) ≡ seen_lines lines ++ rest_lines n
 rest_one zero some lines line is = absurd (omega (arith, some))
 rest_one (suc n) some lines line is =
     map_push (λ (l : String Global). string_bytes l) lines line ∙ ap (λ (l : Bytes). seen_lines lines ++ l ∷ []) is

@@ -165,7 +165,7 @@ line_of_fault paths texts f = fault_line (slice_index_or paths (f.script + 1) []
 -- how many more there are, if there are
 abbrev pub rest_lines : ℕ → List Bytes
 rest_lines zero = []
-rest_lines (suc n) = (decimal (suc n) ++ codes " more faults of the scripts") ∷ []
+rest_lines (suc n) = (codes "faults of the scripts that are not shown: " ++ decimal (suc n)) ∷ []
 
 -- the first of them, and how many more there are
 abbrev pub told_lines : List Bytes → List Bytes → List ScriptFault → List Bytes

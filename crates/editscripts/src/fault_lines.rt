@@ -161,7 +161,7 @@ fn put_rest(alloc: Global, lines: &mut Vec<String>, more: usize) -> Result<(), A
     if more == 0 {
         return Ok(());
     }
-    let line = format!(in alloc; "{more} more faults of the scripts")?;
+    let line = format!(in alloc; "faults of the scripts that are not shown: {more}")?;
     lines.push(line)?;
     Ok(())
 }
